@@ -20,7 +20,7 @@ pushed old a b t one two now first second third =
     ∙ ap (λ z. z ++ t) (second ∙ ap (λ z. z ++ b) first ∙ append_assoc old a b)
     ∙ append_assoc old (a ++ b) t
 
--- what stands before the members is written
+-- what is before the members is written
 pub begun : (old new word rest whole : List ℕ) → new ≡ old ++ word → whole ≡ word ++ rest → new ++ rest ≡ old ++ whole
 begun old new word rest whole written is =
     ap (λ z. z ++ rest) written ∙ append_assoc old word rest ∙ ap (λ z. old ++ z) (sym is)

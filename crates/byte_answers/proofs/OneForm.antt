@@ -22,7 +22,7 @@ grown (all_of n) st next (es, rest, (size, has, made)) =
 grown (any_of n) st next (es, rest, (size, has, made)) =
     omega (arith, ap length made, ap length has, length-append es rest)
 
--- what stands before a record is 17 bytes shorter at least
+-- what is before a record is 17 bytes shorter at least
 piece_room : (ps : List Piece) (p : Piece) → length (pieces ps) + 17 ≤ length (pieces ps ++ piece_bytes p)
 piece_room ps p = omega (arith, length-append (pieces ps) (piece_bytes p), (piece_sizes (piece_bytes p) [] p refl).long)
 

@@ -89,7 +89,7 @@ seconds negation = []
 seconds (all_of n) = []
 seconds (any_of n) = []
 
--- the bytes of a piece behind others
+-- the bytes of a piece after others
 pub behind : (front : List ℕ) (p : Piece) → front ++ piece_bytes p
     ≡ ((front ++ firsts p) ++ seconds p) ++ numbers (first_number p) (second_number p) (piece_tag p)
 behind front (leaf c) =
@@ -209,7 +209,7 @@ one_piece left xs ys p q small ps qs one other =
           ∙ known q,
     )
 
--- a record of two texts behind others
+-- a record of two texts after others
 pub record_behind : (front first second : List ℕ) (tag : ℕ) → front ++ (first ++ (second ++ numbers (length first)
     (length second) tag)) ≡ (front ++ (first ++ second)) ++ numbers (length first) (length second) tag
 record_behind front first second tag =

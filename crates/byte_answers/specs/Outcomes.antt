@@ -4,7 +4,7 @@ use Rattle.byte_answers.specs.declared.outcome.Outcome.{Outcome}
 use Rattle.byte_answers.specs.declared.outcome.TheConstants.{DONE, REFUSED, NOT_UTF8, NOT_FLAT, NO_MEMORY, UNDECIDED}
 use Rattle.byte_answers.specs.declared.outcome.TheConstants.{TOO_DEEP, UNKNOWN_TARGET}
 
--- the text needs so many bytes; a buffer that has as many begins with the text, and all other bytes are unchanged
+-- the text needs this many bytes; a buffer that has as many begins with the text, and all other bytes are unchanged
 abbrev pub IsWritten : List ℕ → ℕ → List ℕ → List ℕ → Type 0
 IsWritten text needed old new =
     (needed ≡ length text)

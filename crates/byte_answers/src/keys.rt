@@ -17,7 +17,7 @@ use crate::reading::{read_condition, read_text, span_of};
 use cargo_platform::{ParseError, Platform, ReadError};
 use std::alloc::Global;
 
-/// Writes the canonical text of a key's condition, which spells the same condition.
+/// Writes the canonical text of a key's condition, which is parsed as the same condition.
 ///
 /// Returns `REFUSED` if the key is not a condition, with the message in the buffer and the span of the error in the
 /// key, in bytes. Returns `NOT_UTF8` if the key is not UTF-8, and `TOO_DEEP` if more than `MOST_OPEN` parentheses are

@@ -11,7 +11,7 @@ pub const REFUSED: u32 = 1;
 pub const NOT_UTF8: u32 = 2;
 /// The bytes are not a flat condition, or not flat facts.
 pub const NOT_FLAT: u32 = 3;
-/// Memory was refused.
+/// An allocation failed.
 pub const NO_MEMORY: u32 = 4;
 /// The budget is used up.
 pub const UNDECIDED: u32 = 5;

@@ -44,7 +44,7 @@ fn configuration_in<R: Files + AllocGlobal>(
 /// Returns the path of the configuration that Cargo reads beside a manifest, if it exists. There is none beside a
 /// manifest whose name is not `Cargo.toml`.
 ///
-/// Fails only where memory runs out.
+/// Fails only if an allocation fails.
 pub fn configuration_beside<R: Files + AllocGlobal>(
     rt: &R,
     manifest: &str,
@@ -97,7 +97,7 @@ fn add_above<R: Files + Env + AllocGlobal>(
 /// first: that of this folder, those of the folders above from the nearest on, and the user's own. A file that is both
 /// above and the user's own occurs twice.
 ///
-/// Fails only where memory runs out.
+/// Fails only if an allocation fails.
 pub fn configurations_at_hand<R: Files + Env + AllocGlobal>(
     rt: &R,
 ) -> Result<Vec<String>, AllocError> {
@@ -111,7 +111,7 @@ pub fn configurations_at_hand<R: Files + Env + AllocGlobal>(
 
 /// Returns the path of the manifest beside a configuration, whether or not that file exists.
 ///
-/// Fails only where memory runs out.
+/// Fails only if an allocation fails.
 pub fn manifest_beside(alloc: Global, configuration: &str) -> Result<String, AllocError> {
     let file = manifest_inside(alloc, folder_of(configuration), "..")?;
     shorter(alloc, file.as_str())

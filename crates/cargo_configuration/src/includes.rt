@@ -31,7 +31,7 @@ struct Inclusion<'a> {
 impl UnreadFiles {
     /// Returns the configurations that Cargo reads in the current folder.
     ///
-    /// Fails only where memory runs out.
+    /// Fails only if an allocation fails.
     pub fn at_hand<R: Files + Env + AllocGlobal>(rt: &R) -> Result<UnreadFiles, AllocError> {
         let mut paths = configurations_at_hand(rt)?;
         paths.reverse();

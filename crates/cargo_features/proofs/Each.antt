@@ -18,7 +18,7 @@ at_each_suc {X} k f (x ∷ xs) (suc i) d below =
     ∙ sym (append_assoc (f k x) (at_each (k + 1) f (take i xs)) (f ((k + 1) + i) (get_or xs i d)))
     ∙ ap (λ (n : ℕ). (f k x ++ at_each (k + 1) f (take i xs)) ++ f n (get_or xs i d)) e
 
--- the steps of so many elements, and those of one more
+-- the steps of this many elements, and those of one more
 pub each_more : {X : Type 0} (f : ℕ → X → List Step) (xs : List X) (i : ℕ) (d : X) → i < length xs
     → at_each 0 f (take i xs) ++ f i (get_or xs i d) ≡ at_each 0 f (take (i + 1) xs)
 each_more {X} f xs i d below =

@@ -24,7 +24,7 @@ use Rattle.cargo_features.specs.declared.claims.Step.{Step}
 use Rattle.cargo_features.specs.declared.packages.Package.{Package}
 use Rattle.cargo_features.proofs.Numbering.{number_fits, known_below, same_claim}
 
--- what stands where nothing was read
+-- the default where nothing was read
 abbrev pub no_step : Step
 no_step = record { first = claim.Asked; second = claim.Asked; to = claim.Asked; condition = Always }
 

@@ -7,7 +7,7 @@ use Rattle.std.proofs.lemmas.List.Elements.{Contains-append_left, Contains-push}
 use Rattle.cargo_features.specs.Inside.Listing.{IsListed}
 use Rattle.cargo_features.specs.declared.rules.Rule.{Rule}
 
--- what stands where nothing was read
+-- the default where nothing was read
 abbrev pub no_rule : Rule
 no_rule = record { first = 0; second = 0; to = 0; holds = record { words = [] } }
 

@@ -35,7 +35,7 @@ fn number_of(side: Side) -> usize
 }
 
 impl Numbers {
-    /// Returns numbers for the claims about packages. Fails if memory is refused, or if there are too many claims to
+    /// Returns numbers for the claims about packages. Fails if an allocation fails, or if there are too many claims to
     /// number.
     pub fn new(alloc: Global, packages: &[Package]) -> Result<Numbers, AllocError>
         ensures { IfOk result (λ numbers. AreNumbers packages.now numbers) }

@@ -140,7 +140,7 @@ impl Numbered {
 }
 
 /// Returns for each package the targets on which a build uses it, for the target or for the host. Whatever names no
-/// package, feature or dependency is ignored. Fails if memory is refused, or if there are too many claims to number.
+/// package, feature or dependency is ignored. Fails if an allocation fails, or if there are too many claims to number.
 pub fn used_packages(
     alloc: Global,
     packages: &[Package],
@@ -169,7 +169,7 @@ pub struct Resolved {
 }
 
 /// Returns the targets on which each claim about the packages holds. Whatever names no package, feature or dependency
-/// is ignored. Fails if memory is refused, or if there are too many claims to number.
+/// is ignored. Fails if an allocation fails, or if there are too many claims to number.
 pub fn resolve(alloc: Global, packages: Vec<Package>, build: Build) -> Result<Resolved, AllocError>
     // The result has these packages and this build.
     ensures same { IfOk result (λ resolved. IsResolved packages.items build resolved) }

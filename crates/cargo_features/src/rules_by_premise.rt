@@ -14,7 +14,7 @@ pub struct Premises {
 }
 
 impl Premises {
-    /// Returns the premises of rules over `count` facts. Fails only if memory is refused.
+    /// Returns the premises of rules over `count` facts. Fails only if an allocation fails.
     pub fn of(alloc: Global, count: usize, rules: &[Rule]) -> Result<Premises, AllocError>
         ensures count { IfOk result (λ premises. length (place_lists premises) ≡ count) }
         ensures all { IfOk result (λ premises. AreListed rules.now (place_lists premises)) }

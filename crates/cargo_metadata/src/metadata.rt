@@ -27,7 +27,7 @@ pub struct Metadata<'a> {
 }
 
 /// Reads the parts of a document that a graph of packages needs: the version, then the packages, the members and the
-/// nodes. Other fields are ignored. Fails at the first part that is not as expected, and if memory is refused.
+/// nodes. Other fields are ignored. Fails at the first part that is not as expected, and if an allocation fails.
 pub fn read<'a>(alloc: Global, document: &'a Value) -> Result<Metadata<'a>, Refusal>
     ensures { MatchResult result (λ m. IsMetadata (view document.now) m)
         (λ refusal. IsRefused (view document.now) refusal) }

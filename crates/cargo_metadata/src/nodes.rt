@@ -125,7 +125,7 @@ fn dependency_of<'a>(alloc: Global, value: &'a Value) -> Result<Dependency<'a>, 
     Ok(Dependency { on, name, kinds })
 }
 
-/// Reads a node from an object. Fails at the first part that is not as expected, and if memory is refused.
+/// Reads a node from an object. Fails at the first part that is not as expected, and if an allocation fails.
 pub fn node_of<'a>(alloc: Global, value: &'a Value) -> Result<Node<'a>, InNode>
     ensures { MatchResult result (λ n. IsNode (view value.now) n) (λ wrong. IsInNode (view value.now) wrong) }
 {

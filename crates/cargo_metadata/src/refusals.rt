@@ -69,7 +69,7 @@ pub enum Refusal {
 }
 
 impl Refusal {
-    /// Returns whether memory was refused, anywhere in the document.
+    /// Returns whether an allocation failed, anywhere in the document.
     pub fn is_memory(&self) -> bool
         ensures { result ≡ is_memory self.now }
     {
@@ -82,7 +82,7 @@ impl Refusal {
 }
 
 impl InNode {
-    /// Returns whether memory was refused, anywhere in the node.
+    /// Returns whether an allocation failed, anywhere in the node.
     fn is_memory(&self) -> bool
         ensures { result ≡ is_memory_of_node self.now }
     {

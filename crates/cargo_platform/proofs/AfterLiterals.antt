@@ -1,4 +1,4 @@
--- Where today's fault lies, and what the Rust crate's grammar has there: the same fault, or `true` or `false` as a key.
+-- Where today's fault is, and what the Rust crate's grammar has there: the same fault, or `true` or `false` as a key.
 use Rattle.std.proofs.Common.{◌≡◌, refl, sym, ap, ◌∙◌, ℕ, ◌≤◌, arith, Bool, true, false, true≢false, List, [], ◌∷◌}
 use Rattle.std.proofs.Common.{◌++◌, Some, None, codes, inl, inr, ◌⊎◌, append_assoc, length, length-append, drop}
 use Rattle.std.proofs.lemmas.Bool.{false_from_ne_true}
@@ -276,7 +276,7 @@ was_there text fault q longest =
       refl,
     )
 
--- what comes behind the prefix is what the cut has there
+-- what comes after the prefix is what the cut has there
 next_is : (text : List ℕ) (fault : Fault) (q : IsRefused Expressions text fault)
     → q.next ≡ next_before q.cut.last q.after
 next_is text fault q =
@@ -316,7 +316,7 @@ after_member text fault q e g gs t led next =
     (sym q.is_fault ∙ (λ i. fault_of Expressions text (no i) (last_or None ts) (next i))
     ∙ ap (λ (z : List ℕ). Some (UnexpectedToken z (called t.token))) expected)
 
--- the fault at `=`, by whether tokens stand before the literal
+-- the fault at `=`, by whether tokens are before the literal
 literal_fault : (text : List ℕ) (fault : Fault) (q : IsRefused Expressions text fault) (e : Tree) (gs : List Opening)
     (t : Placed) (before : List Lexeme) → lead_from false (Some start) (lexemes q.prefix) ≡ Some (WithTree e gs)
     → q.next ≡ Token t → t.token ≡ Equals → lead_from false (Some start) before ≡ Some (Wanting gs)
@@ -370,7 +370,7 @@ no_longer prefix rest longer others t p led stops h c =
           ∙ next_stops true (lexemes prefix) (lexemes m.0) t.token p led stops) c.2)
     ]
 
--- today's grammar does not take the token behind the fault prefix
+-- today's grammar does not take the token after the fault prefix
 stuck : (text : List ℕ) (fault : Fault) (q : IsRefused Expressions text fault) (p : Position) (t : Placed)
     (others : List Placed) → q.after ≡ t ∷ others → lead_from false (Some start) (lexemes q.prefix) ≡ Some p
     → lead false p t.token ≡ None
@@ -413,7 +413,7 @@ there_or_key text fault q =
 token_is : {a b : Placed} → Token a ≡ Token b → b ≡ a
 token_is h = cc
 
--- a token that comes behind a prefix is the first after it
+-- a token that comes after a prefix is the first after it
 token_after : (last : Item) (after : List Placed) (t : Placed) → IsFalse (is_token last)
     → Token t ≡ next_before last after → (others : List Placed) × (after ≡ t ∷ others)
 token_after last [] t none h = absurd (true≢false (ap is_token h ∙ none))

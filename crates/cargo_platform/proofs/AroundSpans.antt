@@ -1,4 +1,4 @@
--- What stands around the span of a fault.
+-- What is around the span of a fault.
 use Rattle.std.proofs.Common.{◌≡◌, refl, sym, ap, subst, ◌∙◌, ℕ, zero, suc, ◌+◌, ◌-◌, ◌≤◌, ◌==◌, Bool, true, false, not}
 use Rattle.std.proofs.Common.{◌&&◌, List, [], ◌∷◌, ◌++◌, codes, inl, inr, Option, Some, None, length, take, drop, arith}
 use Rattle.std.proofs.Common.{true≢false, length-append, length-take, drop_of_length-le}
@@ -92,7 +92,7 @@ rest_in_front text n i within =
     let whole : i + (n - i) ≡ n = omega (arith, within) in
     ap (λ k. drop i (take k text)) (sym whole) ∙ drop-take i (n - i) text
 
--- a piece of a text is one of the beginning in which it lies
+-- a piece of a text is one of the beginning in which it is
 piece_in_front : (text : List ℕ) (n i j : ℕ) (p : List ℕ) → j ≤ n → IsPiece text i j p → IsPiece (take n text) i j p
 piece_in_front text n i j p within h = record {
   ordered = h.ordered;

@@ -155,7 +155,7 @@ pub whole_leads : (keys : Bool) (e : Tree) (ts : List Lexeme) → SpellsBy (may_
 whole_leads keys e ts p =
     ap (lead_from keys (Some (Wanting []))) (sym (append-nil ts)) ∙ tree_leads keys e ts [] [] p
 
--- ---- the state is told by the position
+-- ---- the state is determined by the position
 
 abbrev pub state_at : Option Position → Option State
 state_at None = None
@@ -227,7 +227,7 @@ states g None ts = refl
 states g (Some p) [] = refl
 states g (Some p) (t ∷ ts) = ap (λ s. walk_from g s ts) (next_state g p t) ∙ states g (step g p t) ts
 
--- where tokens lead is told by the position
+-- where tokens lead is determined by the position
 pub walk_state : (g : Grammar) (ts : List Lexeme) → walk g ts ≡ state_at (steps g (Some start) ts)
 walk_state g ts = states g (Some start) ts
 

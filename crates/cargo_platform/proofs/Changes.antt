@@ -146,7 +146,7 @@ mutual
       let o = members_from_released ds others q in
       (tree r.0 o.0, (first, r.1, inr (others, is, o.1)), λ i. tree (r.2 i) (o.2 i))
 
--- What a list of tokens spelled is told by what it spells.
+-- What a list of tokens spelled is determined by what it spells.
 pub spelled_released : (ts : List Lexeme) → SpelledReleased ts
 spelled_released ts d e p = (
   λ q.
@@ -219,7 +219,7 @@ tree_text_as_released text = (
   λ p. let r = from_released p.0 (lexemes p.1.0) p.1.2 in (r.0, (p.1.0, p.1.1, r.1)),
 )
 
--- And the same one, if no marked literal stands alone in it.
+-- And the same one, if no marked literal is alone in it.
 pub keeps_tree : (text : List ℕ) → KeepsTree text
 keeps_tree text d e p q h =
     let same : p.0 ≡ q.0 = (one_cut_from text p.0 q.0 0 _ _ p.1 q.1).0 in
@@ -237,7 +237,7 @@ condition_text_as_released text = (λ p. back p.0 p.1, λ p. on p.0 p.1)
     on (Target name) p = (Target name, p)
     on (Expression e) p = let r = (tree_text_as_released p.0).1 (e, p.2) in (Expression r.0, (p.0, p.1, r.1))
 
--- And the same one, if no marked literal stands alone in it.
+-- And the same one, if no marked literal is alone in it.
 pub keeps_condition : (text : List ℕ) → KeepsCondition text
 keeps_condition text (Target m) (Target n) p q h = ap Target (q.0 ∙ sym p.0)
 keeps_condition text (Target m) (Expression e) p q h = absurd (p.1 q.0 q.1)
@@ -261,7 +261,7 @@ condition_refused_as_released text orig fault = (λ r. on r, λ r. back r)
 
 -- ---- keys
 
--- a name or a pair that may stand in an expression now
+-- a name or a pair that may be in an expression now
 no_key : (c : CfgValue) → MayStand c → is_literal_key c ≡ false
 no_key (Alone n) m = refl
 no_key (KeyPair k v) m = m.1
@@ -331,7 +331,7 @@ refused_for_literal_keys ts e p = (
 
 -- ---- well-formed trees
 
--- of the values that may stand, those of which the test is false
+-- of the allowed values, those for which the test is false
 abbrev Narrows : (CfgValue → Type 0) → (CfgValue → Type 0) → (CfgValue → Bool) → Type 0
 Narrows less may test = (c : CfgValue) → less c ↔ (may c × (test c ≡ false))
 

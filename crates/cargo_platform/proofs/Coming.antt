@@ -112,7 +112,7 @@ whole_read text at seen fault looks long r none = go fault r
 
 -- ---- what is not ahead
 
--- what a look shows where an ASCII byte stands
+-- what a look finds at an ASCII byte
 byte_seen : (text : List ℕ) (at : ℕ) (seen : Look) (b : ℕ) (bs : List ℕ) → Shows text at seen → drop at text ≡ b ∷ bs
     → b < 128 → seen ≡ Ascii b
 byte_seen text at End b bs h e lt =
@@ -203,7 +203,7 @@ fault_lacks P text at k within f = λ t h p.
 
 -- ---- steps of a reader
 
--- where a token stands no fault was found
+-- where a token is, no fault was found
 pub token_no_fault : (text : List ℕ) (at end : ℕ) (t : Lexeme) (seen : Look) (fault : Option TokenFaultKind)
     (looks long : ℕ) → IsReadingAt text at seen fault looks long → IsTokenAt text t at end → fault ≡ None
 token_no_fault text at end t seen None looks long r stands = refl
@@ -279,7 +279,7 @@ finds text at seen fault k looks new long r none begins few found =
       at_most_ever = omega (arith, few, r.at_most none);
     }
 
--- a mark stands where its byte does
+-- a mark is where its byte is
 pub punctuation_stands : (text : List ℕ) (at b : ℕ) (m : Punctuation) → written (lexeme_of m) ≡ b ∷ []
     → IsCharAt text at b → b < 128
     → IsTokenAt text (lexeme_of m) at (at + 1)

@@ -1,4 +1,4 @@
--- What is answered to the text of a condition, case by case.
+-- The result for the text of a condition, case by case.
 use Rattle.std.proofs.Common.{◌≡◌, sym, subst, ℕ, List, inl, Err, String, Global}
 use Rattle.cargo_platform.specs.declared.Platform.{Platform}
 use Rattle.cargo_platform.specs.declared.Platform.TheVariants as platform

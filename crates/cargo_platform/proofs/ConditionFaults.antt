@@ -25,7 +25,7 @@ use Rattle.cargo_platform.proofs.Refused.{refused_spells_none}
 
 -- ---- `cfg(..)` or not
 
--- the text is what stands around the only inner text that it may have, or it has none
+-- the text is what is around the only inner text that it may have, or it has none
 cfg_or_bare : (text : List ℕ) → ((inner : List ℕ) × IsCfgOf text inner) ⊎ IsBare text
 cfg_or_bare text =
     let inner = take (length text - 5) (drop 4 text) in
@@ -40,7 +40,7 @@ cfg_or_bare text =
           true≢false (sym ((bytes_eq-Decides text (around inner)).1 (h ∙ ap around (sym only))) ∙ apart))
     ] refl
 
--- between `cfg(` and `)` stands a text of characters
+-- between `cfg(` and `)` is a text of characters
 pub inner_utf8 : (text inner : List ℕ) → IsUtf8 text → IsCfgOf text inner → IsUtf8 inner
 inner_utf8 text inner u h =
     let behind = (ascii_sides 0x28 text (codes "cfg") (inner ++ codes ")") (lit≤ tt) u h).1 in

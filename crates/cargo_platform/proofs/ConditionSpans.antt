@@ -67,7 +67,7 @@ target_in text s utf8 (inl a) =
     subst (IsSpanIn text) (sym a.1) (omega arith, IsCharBoundary-end text, IsCharBoundary-end text)
 target_in text s utf8 (inr a) = subst (IsSpanIn text) (sym a.1.1.1) (first_in text a.1.0 a.1.1.0 utf8)
 
--- before the first refused character stands a target name
+-- before the first refused character is a target name
 pub behind_name : (text : List ℕ) (s : Range ℕ) → IsBehindName text s
 behind_name text s plain (inl a) = absurd (plain a.0)
 behind_name text s plain (inr a) =
@@ -75,7 +75,7 @@ behind_name text s plain (inr a) =
     subst (λ (z : List ℕ). IsTargetName z)
     (sym (ap (λ (z : Range ℕ). take z.start text) a.1.1.1 ∙ front_is text a.1.0 first)) first.3
 
--- the span of a fault lies within the text that the fault is of
+-- the span of a fault is within the text that the fault is of
 pub condition_placed_in : (text orig : List ℕ) (fault : Fault) (span : Range ℕ) → IsUtf8 text
     → IsRefusedConditionAt text orig fault (Some span) → IsSpanIn orig span
 condition_placed_in text orig fault span utf8 (inl a) =

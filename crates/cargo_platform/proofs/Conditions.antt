@@ -1,4 +1,4 @@
--- The text of a condition: it spells at most one, and the print of a well-formed one spells it.
+-- The text of a condition: it spells at most one, and the printed text of a well-formed one spells it.
 use Rattle.std.proofs.Common.{◌≡◌, refl, sym, ap, ◌∙◌, subst, ℕ, Bool, false, List, ◌++◌, codes}
 use Rattle.std.proofs.lemmas.List.{append_cancel_left, append_cancel_right}
 use Rattle.cargo_platform.specs.Trees.{Tree, Condition, Target, Expression}
@@ -11,7 +11,7 @@ use Rattle.cargo_platform.proofs.PrintedSpells.{printed_spells}
 use Rattle.cargo_platform.proofs.WellFormedness.{spelled_well_formed}
 use Rattle.cargo_platform.proofs.TargetNames.{name_is_bare}
 
--- one text stands between `cfg(` and `)`
+-- one text is between `cfg(` and `)`
 pub one_inner : (text i j : List ℕ) → IsCfgOf text i → IsCfgOf text j → i ≡ j
 one_inner text i j p q =
     append_cancel_left (codes "cfg(") i j
@@ -39,7 +39,7 @@ pub spelled_well_formed_condition : (text : List ℕ) (p : Condition) → IsCond
 spelled_well_formed_condition text (Target m) p = subst IsTargetName (sym p.0) p.2
 spelled_well_formed_condition text (Expression e) p = spelled_well_formed p.0 e p.2
 
--- The print of a well-formed condition is accepted, with that condition.
+-- The printed text of a well-formed condition is accepted, with that condition.
 pub printed_condition_spells : (p : Condition) → IsWellFormedCondition p → IsConditionText (print_condition p) p
 printed_condition_spells (Target m) w = (refl, name_is_bare m w, w)
 printed_condition_spells (Expression e) w = (print e, refl, printed_spells e w)

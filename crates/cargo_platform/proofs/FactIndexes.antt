@@ -1,4 +1,4 @@
--- The facts of an index mean what its list meant, and a search finds what they have.
+-- The facts of an index represent the set of its list, and a search finds exactly them.
 use Rattle.std.proofs.Common.{◌≡◌, refl, sym, ap, ◌∙◌, ℕ, ◌+◌, ◌<◌, ◌||◌, List, [], ◌∷◌, ◌++◌, map}
 use Rattle.std.proofs.Common.{length, take, get_or, append_assoc}
 use Rattle.std.specs.List.{list_any}
@@ -52,7 +52,7 @@ module _ (facts : List Cfg) (i : ℕ) (fact : Cfg) (within : i < length facts) (
       rw (next c same, map_push key_value pairs p, ← append_assoc ns ps (c ∷ []))
       (IsPermutation-append_left (c ∷ []) (map value_of (take i facts)) (ns ++ ps) kept)
 
--- facts in another order mean the same set
+-- facts in another order represent the same set
 permuted : (cs ds : List CfgValue) → IsPermutation cs ds → fact_set ds ≡ fact_set cs
 permuted cs ds moved =
     same_set pairs_total pair_tie (fact_set ds) (fact_set cs)

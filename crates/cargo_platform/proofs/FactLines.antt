@@ -1,4 +1,4 @@
--- Lines that spell facts, and what is answered to them.
+-- Lines that spell facts, and the result for them.
 use Rattle.std.proofs.Common.{◌≡◌, ◌<◌, ◌+◌, ◌-◌, ◌∙◌, ℕ, zero, suc, List, [], ◌∷◌, ◌++◌, length, length-take, get_or}
 use Rattle.std.proofs.Common.{take, map, refl, sym, ap, subst, arith, append-nil, Result, Ok, Err, Vec}
 use Rattle.std.specs.declared.alloc.Global.{Global}
@@ -170,7 +170,7 @@ pub no_list : (P : Vec Cfg Global → Type 0) (r : FactsError) (answer : Result 
 no_list P r (Ok v) is = absurd is
 no_list P r (Err e) is = tt
 
--- a part of what is said of the refused line
+-- a part of a statement about the refused line
 pub if_line : (P Q : ℕ → ParseError → Type 0) (answer : Result (Vec Cfg Global) FactsError)
     → ((n : ℕ) (e : ParseError) → P n e → Q n e) → IfLine answer P → IfLine answer Q
 if_line P Q (Ok v) f h = tt

@@ -50,7 +50,7 @@ pub is_listed : (c : CfgValue) (facts : List CfgValue)
 is_listed c facts =
     turned c facts ∙ searched c facts ∙ sym (contains-from_list pairs_total (map pair_of facts) (pair_of c))
 
--- the same of facts as they lie in memory
+-- the same of facts as they are in memory
 same_test : (c : CfgValue) (facts : List Cfg)
     → list_any (λ f. eq_by_cmp value_cmp (value_of f) c) facts
     ≡ list_any (λ f. eq_by_cmp value_cmp f c) (map value_of facts)

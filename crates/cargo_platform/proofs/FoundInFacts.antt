@@ -1,4 +1,4 @@
--- The span of a refused line of facts lies in the whole text.
+-- The span of a refused line of facts is in the whole text.
 use Rattle.std.proofs.Common.{◌≡◌, refl, ap, subst, ◌∙◌, ℕ, zero, suc, ◌-◌, ◌<◌, ◌⊎◌, List, [], ◌∷◌, ◌++◌, inl, inr}
 use Rattle.std.proofs.Common.{length, sym, take, get_or, append_assoc, append-nil, arith, lit≤, Option, IsUtf8}
 use Rattle.std.specs.declared.ops.Range.{Range}
@@ -21,7 +21,7 @@ use Rattle.cargo_platform.proofs.FoundInKeys.{span_behind, found_by}
 abbrev EndsLine : List ℕ → Type 0
 EndsLine back = (back ≡ []) ⊎ ((more : List ℕ) × (back ≡ 10 ∷ more))
 
--- what stands around a line
+-- what is around a line
 abbrev Around : List ℕ → List (List ℕ) → List ℕ → Type 0
 Around text before line = (back : List ℕ) × (text ≡ ended before ++ (line ++ back)) × EndsLine back
 
@@ -59,7 +59,7 @@ around (l ∷ ls) text (suc i) (inr (f ∷ front, last, is, some, e)) below =
     (e ∙ append_assoc (line f) (ended front) last ∙ ap (λ z. line z ++ (ended front ++ last)) same)
     (around ls (ended front ++ last) i (inr (front, last, others, some, refl)) (omega (arith, below)))
 
--- after lines stands a text of characters
+-- what follows lines is a text of characters
 utf8_behind : (ls : List (List ℕ)) (rest : List ℕ) → IsUtf8 (ended ls ++ rest) → IsUtf8 rest
 utf8_behind [] rest u = u
 utf8_behind (l ∷ ls) rest u =
@@ -74,14 +74,14 @@ line_utf8 l back u (inl none) =
 line_utf8 l back u (inr more) =
     (ascii_sides 10 (l ++ back) l more.0 (lit≤ tt) u (ap (λ z. l ++ z) more.1)).0
 
--- a line of a text of characters is one, and so is what stands from it on
+-- a line of a text of characters is one too, and so is the text from it on
 utf8_around : (text : List ℕ) (before : List (List ℕ)) (l : List ℕ) → IsUtf8 text → (a : Around text before l)
     → IsUtf8 l × IsUtf8 (l ++ a.0)
 utf8_around text before l utf8 a =
     let closed = utf8_behind before (l ++ a.0) (subst (λ (z : List ℕ). IsUtf8 z) a.1 utf8) in
     (line_utf8 l a.0 closed a.2, closed)
 
--- the span of a line lies in the text in which the line stands
+-- the span of a line is in the text in which the line is
 span_of_line : (text : List ℕ) (before : List (List ℕ)) (l : List ℕ) (span : Range ℕ) → IsUtf8 text
     → Around text before l → IsSpanIn l span → IsSpanIn text (further (length (ended before)) span)
 span_of_line text before l span utf8 a s =

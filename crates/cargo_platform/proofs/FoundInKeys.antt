@@ -1,4 +1,4 @@
--- The span of a refused key lies in the key.
+-- The span of a refused key is in the key.
 use Rattle.std.proofs.Common.{◌≡◌, refl, sym, ap, subst, ◌∙◌, ℕ, ◌+◌, Bool, true, false, List, ◌++◌, codes, length}
 use Rattle.std.proofs.Common.{length-append, take, drop, Option, Some, None, inl, inr, IsUtf8, lit≤, arith}
 use Rattle.std.specs.List.{last_or}
@@ -20,7 +20,7 @@ use Rattle.cargo_platform.proofs.SomeCut.{ascii_sides}
 use Rattle.cargo_platform.proofs.ConditionFaults.{inner_utf8}
 use Rattle.cargo_platform.proofs.ConditionSpans.{condition_placed_in}
 
--- a fault of tokens is none of a target name
+-- a fault of tokens is not a fault of a target name
 no_name : (g : Grammar) (text : List ℕ) (accepted : Bool) (last : Option Lexeme) (next : Item) (fault : Fault)
     → fault_of g text accepted last next ≡ Some fault → is_of_name fault ≡ false
 no_name g text true last (Token t) fault is = sym (ap is_of_name (same_Some _ _ is))
@@ -58,7 +58,7 @@ span_behind key front text back span parts utf8 closed s = (
   place_behind key front text back span.end parts utf8 closed s.2,
 )
 
--- where the text of a span stands in a larger one, at one place or more, the span lies in that one
+-- where the text of a span is in a larger one, at one place or more, the span is in that one
 pub found_by : (Begins : ℕ → Type 0) (key text : List ℕ) (span : Range ℕ) (found : Option (Range ℕ))
     → IsSpanIn text span → ((place : ℕ) × Begins place)
     → ((place : ℕ) → Begins place → IsSpanIn key (further place span)) → IsSpanBy Begins text (Some span) found
@@ -68,7 +68,7 @@ found_by Begins key text span (Some at) within there inside lies =
     let it = lies within in
     (at, refl, subst (IsSpanIn key) (sym it.2) (inside it.0 it.1))
 
--- the span of a text lies in the key in which the text stands
+-- the span of a text is in the key in which the text is
 span_inside : (key text : List ℕ) (fault : Fault) (span : Range ℕ) → IsUtf8 key → IsSpanIn text span → (place : ℕ)
     → BeginsIn key text fault place → IsSpanIn key (further place span)
 span_inside key text fault span utf8 s place (inl a) =
@@ -81,7 +81,7 @@ span_inside key text fault span utf8 s place (inr a) =
     subst (λ (z : ℕ). IsSpanIn key (further z span)) (sym a.2)
     (span_behind key (codes "cfg(") text (codes ")") span a.1 (inner_utf8 key text utf8 a.1) closed s)
 
--- the text of a refused condition stands in the key
+-- the text of a refused condition is in the key
 stands : (key text : List ℕ) (fault : Fault) (span : Option (Range ℕ)) → IsRefusedConditionAt key text fault span
     → (place : ℕ) × BeginsIn key text fault place
 stands key text fault span (inl a) =

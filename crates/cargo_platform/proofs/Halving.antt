@@ -1,4 +1,4 @@
--- A search goes on in one half of what is left, since the other half has nothing to find.
+-- A search goes on in one half of what is left, since what it looks for is not in the other half.
 use Rattle.std.proofs.Common.{◌≡◌, refl, sym, ap, ◌∙◌, ℕ, ◌+◌, ◌-◌, ◌*◌, ◌^◌, ◌<◌, ◌≤◌, Bool, false, ◌||◌}
 use Rattle.std.proofs.Common.{List, ◌∷◌, length, take, drop, get_or, arith}
 use Rattle.std.specs.declared.cmp.Ordering.{Ordering}
@@ -73,7 +73,8 @@ module _ {A : Type 0} (order : A → Ordering) (xs : List A) (i : ℕ) (x : A) (
       (sym (list_any_none test (drop i xs) (All-from_get_or (λ a. test a ≡ false) (drop i xs) x none)))
       ∙ split i
 
--- what a search has come to: something is found in what is left if it is found at all, and each comparison halved it
+-- the state of a search: what it looks for is in what is left if it is in the list at all, and each comparison halved
+-- what is left
 pub record IsHalved {A : Type 0} (order : A → Ordering) (xs left : List A) (old now : ℕ) : Type 0 where
   pub rising : IsNonDecreasingBy (λ a. ordering_index (order a)) left
   pub same : list_any (λ a. is_eq (order a)) left ≡ list_any (λ a. is_eq (order a)) xs

@@ -1,4 +1,4 @@
--- What the sets that holders mean have, for the answers of holders of one's own.
+-- What the sets that holders mean have, for the answers of user-defined holders.
 use Rattle.std.proofs.Common.{◌≡◌, ◌∙◌, refl, sym, ap, ℕ, Bool, true, false, ◌&&◌, ◌||◌, List, [], ◌∷◌, bytes_eq}
 use Rattle.std.specs.declared.cmp.Ordering.{Ordering}
 use Rattle.std.specs.declared.cmp.Ordering.TheVariants.{Less, Equal, Greater}
@@ -42,7 +42,7 @@ in_one q p = contains-from_list pairs_total (q ∷ []) p ∙ or_false (eq_by_cmp
 pub in_both : (s t : FactSet) (p : Pair) → contains (union s t) p ≡ (contains s p || contains t p)
 in_both s t p = contains-union pairs_total s t p
 
--- the set of one name has the pair of a value that asks for that name
+-- the set of one name has the pair of a value that tests for that name
 pub in_name : (name : List ℕ) (c : CfgValue) → contains (only (name_fact name)) (pair_of c) ≡ asks_name name c
 in_name name (Alone n) =
     in_one (name_fact name) (pair_of (Alone n)) ∙ then_both (slice_cmp nat_cmp n.name name) Equal ∙ and_true _
@@ -50,7 +50,7 @@ in_name name (Alone n) =
 in_name name (KeyPair k v) =
     in_one (name_fact name) (pair_of (KeyPair k v)) ∙ then_both (slice_cmp nat_cmp k.name name) Greater ∙ and_false _
 
--- the set of one key with its value has the pair of a value that asks for these
+-- the set of one key with its value has the pair of a value that tests for these
 pub in_pair : (key value : List ℕ) (c : CfgValue)
     → contains (only (pair_fact key value)) (pair_of c) ≡ asks_pair key value c
 in_pair key value (Alone n) =
@@ -60,14 +60,14 @@ in_pair key value (KeyPair k v) =
     ∙ then_both (slice_cmp nat_cmp k.name key) (slice_cmp nat_cmp v value)
     ∙ (λ i. is_eq-slice_cmp k.name key i && is_eq-slice_cmp v value i)
 
--- a set that stands under a flag has what the set has, where the flag is set
+-- a set that is under a flag has what the set has, where the flag is set
 pub in_where_set : (flag : Bool) (s : FactSet) (p : Pair) → contains (where_set flag s) p ≡ (flag && contains s p)
 in_where_set true s p = refl
 in_where_set false s p = in_none p
 
 -- ---- answers by `eq_text` and `==`, and by `&&`
 
--- a text that is asked for is compared as text
+-- a sought text is compared as text
 pub texts_compared : (answer : Bool) (x y : List ℕ) → IsTrue answer ↔ (x ≡ y) → answer ≡ bytes_eq x y
 texts_compared answer x y h = same_from_decides answer (bytes_eq x y) h (bytes_eq-Decides x y)
 

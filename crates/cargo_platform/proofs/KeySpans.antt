@@ -1,4 +1,4 @@
--- Where the text of an error stands in a key.
+-- Where the text of an error is in a key.
 use Rattle.std.proofs.Common.{◌≡◌, sym, ◌∙◌, true≢false, ℕ, false, List, Option, Some, None, inl, inr}
 use Rattle.std.specs.declared.ops.Range.{Range}
 use Rattle.cargo_platform.specs.Faults.{Fault}
@@ -6,7 +6,7 @@ use Rattle.cargo_platform.specs.Platforms.{IsCfgOf}
 use Rattle.cargo_platform.specs.KeySpans.{is_of_name, IsNotIn, IsSpanInKey}
 use Rattle.cargo_platform.proofs.Conditions.{one_inner}
 
--- what is no target name's stands in no key around another text
+-- what is no target name's is in no key around another text
 pub stands_not : (key text inner : List ℕ) (fault : Fault) → is_of_name fault ≡ false → IsCfgOf key inner
     → (inner ≡ text → ⊥) → IsNotIn key text fault
 stands_not key text inner fault other around differs place (inl a) = true≢false (sym a.0 ∙ other)

@@ -1,4 +1,4 @@
--- What hangs on the last member of a group hangs on it alone.
+-- What depends on the last member of a group depends on it alone.
 use Rattle.std.proofs.Common.{◌≡◌, refl, sym, ap, ◌∙◌, Bool, true, false, not, ◌&&◌, ◌||◌}
 use Rattle.std.proofs.Common.{ℕ, List, [], ◌∷◌, ◌++◌, length, map, fold, arith}
 use Rattle.std.proofs.lemmas.List.{append-nil}
@@ -59,7 +59,7 @@ decided_before Less p h = refl
 decided_before Equal p h = cc
 decided_before Greater p h = refl
 
--- where those before the last are equal, the order hangs on the last, and otherwise on those
+-- where those before the last are equal, the order depends on the last, and otherwise on those
 pub last_decides : (ds es fs gs : List CfgExpr) (d e : CfgExpr) → ds ≡ fs ++ d ∷ [] → es ≡ gs ++ e ∷ []
     → length fs ≡ length gs → is_eq (members_cmp fs gs) ≡ true → tree_cmp (tree_of d) (tree_of e) ≡ members_cmp ds es
 last_decides ds es fs gs d e p q r h =

@@ -18,7 +18,7 @@ use Rattle.cargo_platform.proofs.TextLines.{first_line, last_line, ended_lines}
 unbroken : (text : List ℕ) → ((i : ℕ) → i < length text → get_or text i 0 ≢ 10) → IsUnbroken text
 unbroken text none = all_each (λ b. not (b == 10)) text (λ i below. ap not (ne_eqb (get_or text i 0) 10 (none i below)))
 
--- the line before the newline and what stands after it, or no newline
+-- the line before the newline and what is after it, or no newline
 pub parts_at_end : (text : List ℕ) (r : Option (Bor (List ℕ) × Bor (List ℕ))) → IsSplitOnceResult 10 text r
     → MatchOption r (IsUnbroken text) (λ x. IsUnbroken x.0.now × (text ≡ line x.0.now ++ x.1.now))
 parts_at_end text None h = unbroken text (split_parts 10 text None h (lit< tt))
@@ -80,7 +80,7 @@ no_more text rest passed many b u more =
       more,
     )
 
--- after all lines none stands
+-- after all lines there is none
 pub none_left : (text rest line : List ℕ) (number many place : ℕ) → IsBehind text many rest → rest ≡ []
     → many + 1 ≡ number → BeginsLine text number line place → ⊥
 none_left text rest line number many place b empty sum h =
@@ -99,7 +99,7 @@ at_seam : (ls : List (List ℕ)) (l : List ℕ) (others : List (List ℕ))
 at_seam [] l others = refl
 at_seam (m ∷ ls) l others = at_seam ls l others
 
--- what stands after lines begins with the next one
+-- what is after lines begins with the next one
 pub begins_next : (text rest first : List ℕ) (number many : ℕ) → IsBehind text many rest → IsFirstLine rest first
     → many + 1 ≡ number → HoldsLine text number first (length text - length rest)
 begins_next text rest first number many b f sum =
@@ -118,7 +118,7 @@ begins_next text rest first number many b f sum =
       omega (arith, size, f.2),
     )
 
--- another line than the next one does not stand there
+-- a line other than the next one is not there
 pub is_other : (text rest first l : List ℕ) (number many : ℕ) → IsBehind text many rest → IsFirstLine rest first
     → many + 1 ≡ number → (first ≡ l → ⊥) → (place : ℕ) → BeginsLine text number l place → ⊥
 is_other text rest first l number many b f sum differs place h =

@@ -85,7 +85,7 @@ ascii_steps text at (suc n) utf8 within small boundary =
       omega (arith, step.1, steps.1, ap (λ n. characters_from text n) there),
     )
 
--- no character stands at the end
+-- there is no character at the end
 pub characters_end : (text : List ℕ) (at : ℕ) → at ≡ length text → characters_from text at ≡ 0
 characters_end text at is =
     ap (λ l. length (chars l)) (no_more (drop at text) (omega (arith, length-drop at text))) ∙ ap length chars-nil
@@ -109,7 +109,7 @@ encodes_fit (c ∷ cs) = omega (
   encodes_fit cs,
 )
 
--- how many characters stand between two places
+-- how many characters are between two places
 pub characters_between : (text : List ℕ) (from to : ℕ) → IsUtf8 text → from ≤ to → IsCharBoundary text from
     → IsCharBoundary text to → AreBetween text from to
 characters_between text from to utf8 ordered begin end =
@@ -184,7 +184,7 @@ one_after_other P from mid to first others i above below = go (ltb i mid) refl
     go true e = first i above (ltb-true i mid e)
     go false e = others i (ltb-false i mid e) below
 
--- a place is a boundary where a quote stands, and at the end
+-- a place is a boundary where a quote is, and at the end
 pub boundary_at_quote : (text : List ℕ) (at : ℕ) → IsUtf8 text → at ≤ length text
     → (at < length text → get_or text at 0 ≡ 0x22) → IsCharBoundary text at
 boundary_at_quote text at utf8 within quote = go (ltb at (length text)) refl

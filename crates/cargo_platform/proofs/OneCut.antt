@@ -252,7 +252,7 @@ piece_rest text i j p h =
     sym (take-append-drop (j - i) (drop i text)) ∙ ap (λ (z : List ℕ). z ++ drop (j - i) (drop i text)) h.bytes
     ∙ ap (λ (z : List ℕ). p ++ z) (drop-drop (j - i) i text ∙ ap (λ k. drop k text) at)
 
--- the first place from which on no space stands
+-- the first position from which on there is no space
 pub same_start : (text : List ℕ) (from i j : ℕ) → AreSpaces text from i → AreSpaces text from j
     → starts is_space (drop i text) ≡ false → starts is_space (drop j text) ≡ false → i ≡ j
 same_start text from i j p q a b =

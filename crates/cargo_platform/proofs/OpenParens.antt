@@ -22,7 +22,7 @@ use Rattle.cargo_platform.specs.Nesting.{groups_down, groups_below, IsNestedBeyo
 
 -- ---- the most that are open, as a function
 
--- the most parentheses that are open at once, where so many are open before the tokens
+-- the most parentheses that are open at once, where this many are open before the tokens
 abbrev pub most_open : ℕ → List Lexeme → ℕ
 most_open o [] = o
 most_open o (t ∷ ts) = max o (most_open (open_after o t) ts)
@@ -93,8 +93,8 @@ is_most_open ts = (within_most 0 ts, some_most 0 ts)
 
 -- ---- tokens that were read
 
--- These tokens were read up to a place of the text, without a fault, and whatever comes from there on comes behind
--- them. So many parentheses are open behind them, and were at most.
+-- These tokens were read up to a place of the text, without a fault, and whatever comes from there on comes after
+-- them. This many parentheses are open after them, and were at most.
 pub record HasOpen (text : List ℕ) (p : Progress) (o most : ℕ) : Type 0 where
   pub same : p.text ≡ text
   pub going : p.failed ≡ false
@@ -248,7 +248,7 @@ passed text p q s o deepest most after h within call is beyond =
 
 -- ---- the nesting of a tree
 
--- from these tokens on as many are open as before them, and at most so many more
+-- from these tokens on as many are open as before them, and at most this many more
 record Lies (o : ℕ) (ts : List Lexeme) (groups : ℕ) : Type 0 where
   closed : open_behind o ts ≡ o
   deepest : most_open o ts ≡ o + groups

@@ -93,7 +93,7 @@ reads_shorter g l m p q a = path_shorter l m a.us a.path
 pub if_fault : (r : Refusal) (P Q : FaultAt → Type 0) → ((f : FaultAt) → P f → Q f) → IfFault r P → IfFault r Q
 if_fault r P Q f p = IfSome_then (refused_at r) p f
 
--- what is said of the fault, where there is one
+-- a statement about the fault, if there is one
 fault_is : (r : Refusal) (f : FaultAt) (P : FaultAt → Type 0) → refused_at r ≡ Some f → IfFault r P → P f
 fault_is r f P h p = subst (λ (o : Option FaultAt). IfSome o P) h p
 
@@ -103,7 +103,7 @@ moved : (a f : Fault) (x : Range ℕ) (s : Option (Range ℕ)) (P : Fault → Op
 moved a f x s P h k p =
     rw (← k) (rw (← same_Some _ _ h) p)
 
--- what is said of the fault that a refusal stands for and of its span
+-- a statement about the fault of a refusal, and about its span
 pub fault_and_span : (r : Refusal) (f : Fault) (s : Option (Range ℕ)) (P : Fault → Option (Range ℕ) → Type 0)
     → refused_fault r ≡ Some f → refused_span r ≡ s → IfFault r (λ x. P x.fault (Some x.span)) → P f s
 fault_and_span (refusal.Unexpected expected found x) f s P h k p = moved _ f x s P h k p
@@ -183,7 +183,7 @@ key_stops g l m n gs r e lacks h =
     stops_here g l m (WithKey n gs) r _ _ e h (refl, refl, refl)
     (λ t is. after_key g n gs t.token (λ v x. lacks t is (v, x)))
 
--- no `=` goes on with a name that stands last
+-- no `=` goes on with a name that is last
 clear_of : (e : Tree) (l : Ahead) (t : Placed) → IsClear e l → NextIs l (cut.Token t) → is_lone e ≡ true
     → t.token ≡ Equals → ⊥
 clear_of (Value (Alone n)) l t clear is h = clear t is

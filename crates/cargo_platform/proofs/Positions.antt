@@ -35,7 +35,7 @@ Wants keys (Listed all es ∷ gs) ts =
     (before : List Lexeme) × (inside : List Lexeme) × Wants keys gs before × AreFinished keys es inside
     × (ts ≡ before ++ (Ident false (list_word all) ∷ LeftParen ∷ inside))
 
--- an expression stands after them
+-- an expression is after them
 abbrev EndsWith : Bool → List Opening → Tree → List Lexeme → Type 0
 EndsWith keys gs e ts =
     (before : List Lexeme) × (s : List Lexeme) × Wants keys gs before × SpellsWith keys e s × (ts ≡ before ++ s)
@@ -115,7 +115,7 @@ word_open keys gs (Listed all es) ts h = (
       ∙ append_assoc h.before (Ident false (list_word all) ∷ []) (LeftParen ∷ []),
 )
 
--- a Ident false name may stand alone, and as a key
+-- an unmarked name may be alone, and be a key
 alone_may : (keys : Bool) (n : Name) → MayStand (Alone n) → may_of keys (Alone n)
 alone_may true n may = may
 alone_may false n may = may

@@ -1,4 +1,4 @@
--- The print of a well-formed tree spells it.
+-- The printed text of a well-formed tree spells it.
 use Rattle.std.proofs.Common.{◌≡◌, refl, sym, ap, subst, ◌∙◌, ℕ, ◌+◌, ◌≤◌, Bool, true, false, not, ◌&&◌, List, []}
 use Rattle.std.proofs.Common.{◌∷◌, ◌++◌, codes, inl, inr, append_assoc, append-nil, arith, length, drop, map}
 use Rattle.std.proofs.Common.{length-drop}
@@ -270,7 +270,7 @@ canonical_spells e w =
     let r = spelled e false [] w in
     subst (λ ts. Spells e ts) (sym (r.2 ∙ append-nil r.0)) r.1
 
--- The print of a well-formed tree is accepted, with that tree.
+-- The printed text of a well-formed tree is accepted, with that tree.
 pub printed_spells : (e : Tree) → IsWellFormed e → IsTreeText (print e) e
 printed_spells e w =
     let text : laid (pieces e false []) ≡ print e = laid_is e false [] ∙ append-nil (print e) in
@@ -281,7 +281,7 @@ value_tokens : (c : CfgValue) → tokens (value_pieces false c []) ≡ value_spe
 value_tokens (Alone n) = refl
 value_tokens (KeyPair k v) = refl
 
--- The print of a well-formed value is accepted, with that value.
+-- The printed text of a well-formed value is accepted, with that value.
 pub printed_value_spells : (c : CfgValue) → IsWellFormedValue c → IsValueText (print_value c) c
 printed_value_spells c w =
     let text : laid (value_pieces false c []) ≡ print_value c = laid_is (Value c) false []

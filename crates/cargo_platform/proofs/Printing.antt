@@ -37,7 +37,7 @@ closed_more : (n : ℕ) → closed n ++ codes ")" ≡ codes ")" ++ closed n
 closed_more zero = refl
 closed_more (suc n) = ap (λ (z : List ℕ). codes ")" ++ z) (closed_more n)
 
--- what stands around the print of an expression or a list
+-- what is around the printed text of an expression or a list
 around : (word print begun : List ℕ) (n : ℕ) → print ≡ begun ++ closed n
     → word ++ print ++ codes ")" ≡ (word ++ begun) ++ (codes ")" ++ closed n)
 around word print begun n same =
@@ -48,7 +48,7 @@ around word print begun n same =
     ∙ sym (append_assoc word begun (codes ")" ++ closed n))
 
 mutual
-  -- a print is what stands before the parentheses that end it, and these
+  -- a print is what is before the parentheses that end it, and these
   pub print_is : (e : Tree) → print e ≡ begun e ++ closed (ending e)
   print_is (Not e) = around (codes "not(") (print e) (begun e) (ending e) (print_is e)
   print_is (All es) = around (codes "all(") (print_members es) (begun_members es) (ending_last es) (members_are es)
@@ -64,7 +64,7 @@ mutual
       ap (λ (z : List ℕ). print e ++ codes ", " ++ z) (members_are (tree d es))
       ∙ sym (append_assoc (print e ++ codes ", ") (begun_members (tree d es)) (closed (ending_last (tree d es))))
 
--- what stands before the last members is the same for an expression and for a list of it alone
+-- what is before the last members is the same for an expression and for a list of it alone
 pub members_begun : (e : Tree) (es : List CfgExpr) → is_group e ≡ false
     → begun_members (tree e (trees_of (map tree_of es)))
     ≡ word e ++ (between es ++ begun_members (trees_of (map tree_of es)))
@@ -79,7 +79,7 @@ members_begun True (e ∷ es) leaf = refl
 members_begun False [] leaf = refl
 members_begun False (e ∷ es) leaf = refl
 
--- after a group that others follow stands a comma
+-- after a group that others follow is a comma
 pub group_begun : (e : Tree) (es : List CfgExpr) → 0 < length es
     → begun_members (tree e (trees_of (map tree_of es)))
     ≡ print e ++ (codes ", " ++ begun_members (trees_of (map tree_of es)))
@@ -138,7 +138,7 @@ first_smaller ls (d ∷ es) e is some =
     omega (arith, ap node_counts is, size_of_first e (d ∷ es), size_of_first d es, size_positive d)
 
 module _ {W : Type 0} (took : W → List ℕ → W → Type 0) where
-  -- a leaf and what stands after it
+  -- a leaf and what is after it
   pub leaf_written : (f g h k : Formatter W) (text : List ℕ) (ls es : List CfgExpr) (e : CfgExpr) → ls ≡ e ∷ es
       → is_group (tree_of e) ≡ false → HasWrittenBut took f text (begun_members (trees_of (map tree_of ls))) g
       → HasWritten took g (word (tree_of e)) h → HasWritten took h (between es) k

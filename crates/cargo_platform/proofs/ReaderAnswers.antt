@@ -27,14 +27,14 @@ pub expression_read : (text : List ℕ) (l m : Ahead) (e : Tree) → l.text ≡ 
 expression_read text l m e same spaces a done =
     (a.us, path_cut text l m a.us same spaces a.path done, tree_spelled e (lexemes a.us) a.leads)
 
--- what is said of the fault that a refusal stands for is said of its error
+-- a statement about the fault of a refusal is true of its error
 pub parse_is : (A : Type 0) (r : Refusal) (orig : List ℕ) (x : ReadError) (P : ParseError → Type 0) → Becomes r orig x
     → ((e : ParseError) → orig_of e ≡ orig → refused_fault r ≡ Some (fault_in e) → refused_span r ≡ span_in e → P e)
     → IfParse {A = A} (Err x) P
 parse_is A r orig (errors.Parse e) P b f = f e b.0 b.1 b.2
 parse_is A r orig (errors.Memory e) P b f = tt
 
--- a part of what is said of an error
+-- a part of a statement about an error
 pub if_parse : (A : Type 0) (x : ReadError) (P Q : ParseError → Type 0) → ((e : ParseError) → P e → Q e)
     → IfParse {A = A} (Err x) P → IfParse {A = A} (Err x) Q
 if_parse A (errors.Parse e) P Q f h = f e h

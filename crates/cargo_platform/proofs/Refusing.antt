@@ -27,7 +27,7 @@ goes_not_on g (t ∷ us) p last next f h =
     let none : step g p t.token ≡ None = rw f at h in
     next_state g p t.token ∙ ap state_at none
 
--- what comes next at the end of a way through a text from its start on, where spaces stand
+-- the item that comes next at the end of a path through a text from its start on, before which there may be spaces
 way_comes : (text : List ℕ) (l m : Ahead) (us : List Placed) (i : Item) (to : ℕ) → l.text ≡ text
     → AreSpaces text 0 l.place → Path l us m → Comes m.text m.place i to → ComesBehind text 0 us i to
 way_comes text l m us i to same spaces path c =

@@ -69,6 +69,6 @@ no_word true l h k = absurd (true≢false h)
 no_word false true h k = absurd (true≢false k)
 no_word false false h k = refl
 
--- a name that may stand in an expression
+-- a name that may be in an expression
 pub plain_name : (n : Name) → MayStand (Alone n) → role n ≡ PlainName
 plain_name n h = no_word (is_group_word n) (is_literal_word n) h.0 h.1

@@ -1,4 +1,4 @@
--- Worked rows: definitions on single cases. They are tests, and no proof rests on them.
+-- Worked rows: definitions on single cases. They are tests, and no proof depends on them.
 mod Tokens
 mod Cut
 mod Spelling

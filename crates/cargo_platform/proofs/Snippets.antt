@@ -5,7 +5,7 @@ use Rattle.std.specs.Prelude.{nat_lt}
 use Rattle.std.specs.List.{repeat}
 use Rattle.cargo_platform.specs.Snippets.{shown, first_shown, end_shown, dots, shown_line, margin, caret_count, carets}
 
--- What is shown of a text with a span after so many characters, of its whole size, and of it up to 101 after them.
+-- What is shown of a text with a span after this many characters, of its whole size, and of it up to 101 after them.
 same_first : (before size : ℕ) → first_shown (min (before + 101) size) before ≡ first_shown size before
 same_first before size = search (rules, arith)
 

@@ -200,7 +200,7 @@ other b bs u h =
     let c = first_char b bs u in
     inl (inr (UnexpectedChar c.0, inr (c.1, c.2, char_fails is_known_start known_is_ascii b bs c.0 c.1 c.2.parts h)))
 
--- a token or the tail, where no space stands
+-- a token or the tail, where there is no space
 pub lex : (text : List ℕ) → IsUtf8 text → starts is_space text ≡ false → Outcome text
 lex [] u h = inl (inl refl)
 lex (b ∷ bs) u h =

@@ -33,7 +33,7 @@ use Rattle.cargo_platform.proofs.OneFault.{one_place}
 
 -- ---- the character that begins no token
 
--- where it stands: at the place, or after the mark `r#` there
+-- where it is: at the place, or after the mark `r#` there
 abbrev pub character_start : List ℕ → ℕ → ℕ
 character_start text at = if slice_index text at == 0x72 then at + 2 else at
 
@@ -43,7 +43,7 @@ first_byte (c ∷ text) rest zero b h = let same : c ≡ b = cc in same
 first_byte [] rest (suc at) b h = absurd cc
 first_byte (c ∷ text) rest (suc at) b h = first_byte text rest at b h
 
--- a place, and the character that stands there
+-- a place, and the character that is there
 pub record Stands (text : List ℕ) (at c : ℕ) : Type 0 where
   pub rest : List ℕ
   pub parts : drop at text ≡ encode_utf8 c ++ rest
@@ -52,7 +52,7 @@ pub record Stands (text : List ℕ) (at c : ℕ) : Type 0 where
 moved : (text : List ℕ) (c i j : ℕ) → i ≡ j → Stands text j c → Stands text i c
 moved text c i j h s = subst (λ (z : ℕ). Stands text z c) (sym h) s
 
--- the span of an unexpected character begins where it stands
+-- the span of an unexpected character begins where it is
 pub character_stands : (text : List ℕ) (at c : ℕ) → IsUtf8 text → IsCharBoundary text at
     → BeginsFault (drop at text) (lexical.UnexpectedChar c) → Stands text (character_start text at) c
 character_stands text at c utf8 boundary (inl f) =
@@ -113,14 +113,14 @@ plain_start text at h =
       | true ↦ λ is. absurd (h (eqb-true _ _ is))
     ] refl
 
--- where a look gave no `r`, none stands
+-- where a look found no `r`, there is none
 pub no_mark : (text : List ℕ) (at : ℕ) (seen : Look) → at < length text → Shows text at seen
     → (seen ≡ Ascii 0x72 → ⊥) → slice_index text at ≡ 0x72 → ⊥
 no_mark text at End within shows none h = absurd (omega (arith, shows, within))
 no_mark text at (Ascii b) within shows none h = none (ap Ascii (shows.1.byte (omega (arith, h)) ∙ h))
 no_mark text at (Wide c) within shows none h = absurd (omega (arith, shows.0, shows.1.byte (omega (arith, h)), h))
 
--- ---- after tokens and spaces stands a text of characters
+-- ---- after tokens and spaces is a text of characters
 
 skip_by : (t : ℕ → Bool) (xs ys : List ℕ) → ((b : ℕ) → t b ≡ true → b < 128) → IsTrue (list_all t xs)
     → IsUtf8 (xs ++ ys) → IsUtf8 ys
@@ -203,7 +203,7 @@ item_in text from to false (Token t) utf8 u h = (
 item_in text from to false (Lexical k at) utf8 u h = lexical_in text at k utf8 (at_boundary text from at u h.0) h.1
 item_in text from to false Nothing utf8 u h = to_end text (length text) (IsCharBoundary-end text)
 
--- the span of a fault lies within its text
+-- the span of a fault is within its text
 pub placed_in : (g : Grammar) (text : List ℕ) (fault : Fault) (span : Range ℕ) → IsUtf8 text
     → IsRefusedAt g text fault (Some span) → IsSpanIn text span
 placed_in g text fault span utf8 h =

@@ -1,4 +1,4 @@
--- Target names: what none of them holds, where a text stops being one, and what is said of it.
+-- Target names: what none of them holds, where a text stops being one, and the message about it.
 use Rattle.std.proofs.Common.{◌≡◌, refl, sym, ap, ◌∙◌, subst, ℕ, Bool, true, false, true≢false, not, ◌<◌, cond, List}
 use Rattle.std.proofs.Common.{[], ◌∷◌, ◌++◌, length, codes, get_or, Option, Some, None, MatchOption, find, IsTrue}
 use Rattle.std.proofs.Common.{IsFalse, IsUtf8, MatchBool, option_map, inl, inr, ◌==◌, ◌||◌, eq-eqb, eqb-true, chars}
@@ -98,7 +98,7 @@ FirstFails t text c =
 abbrev Found : (ℕ → Bool) → List ℕ → Option ℕ → Type 0
 Found t cs o = MatchOption o (AllPass t (encode_utf8_all cs)) (λ c. FirstFails t (encode_utf8_all cs) c)
 
--- a character that passes stands before
+-- a character that passes comes before it
 further : (t : ℕ → Bool) (c : ℕ) (cs : List ℕ) (o : Option ℕ) → IsTrue (t c) → IsScalar c → Found t cs o
     → Found t (c ∷ cs) o
 further t c cs None h s m =
@@ -208,7 +208,7 @@ message_is_no_name text message (inr m) w = refused_is_no_name text m.1.0 m.1.1 
 
 -- ---- the span
 
--- the character stands here, and nowhere before
+-- the character is here, and nowhere before
 abbrev StandsFirst : List ℕ → ℕ → Range ℕ → Type 0
 StandsFirst text c span =
     NoCharPasses (λ d. d == c) (take span.start text)
@@ -274,7 +274,7 @@ apart t c (d ∷ cs) fails all =
     ] refl)
     (apart t c cs fails parts.1)
 
--- the first refused character stands where it is found
+-- the first refused character is where it is found
 first_at : (text : List ℕ) (c i : ℕ) (first : IsFirstRefused text c) → MatchBeginsAt (FindsChar c) text i
     → i ≡ length first.0
 first_at text c i first m =
@@ -284,7 +284,7 @@ first_at text c i first m =
     (sym (first_parts text c first) ∙ sym (text_is text c (from_to i (i + len_utf8 c)) s)) in
     sym (start_is text c (from_to i (i + len_utf8 c)) s) ∙ ap length (sym front) ∙ ap length (sym first.3.2)
 
--- two first refused characters that are the same stand in one place
+-- two first refused characters that are the same are in one place
 pub one_first_place : (text : List ℕ) (c d : ℕ) (p : IsFirstRefused text c) (q : IsFirstRefused text d) → c ≡ d
     → length p.0 ≡ length q.0
 one_first_place text c d p q same =

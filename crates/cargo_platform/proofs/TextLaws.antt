@@ -17,7 +17,8 @@ use Rattle.cargo_platform.proofs.Refused.{refused_spells_no_value, refused_spell
 use Rattle.cargo_platform.proofs.Conditions.{one_condition, spelled_well_formed_condition, printed_condition_spells}
 use Rattle.cargo_platform.proofs.ConditionFaults.{refused_spells_no_condition}
 
--- A grammar of texts has these laws. What is refused is told by the text, the text that the fault is of, and the fault.
+-- A grammar of texts has these laws. What is refused is determined by the text, the text that the fault is of, and the
+-- fault.
 pub record Laws (A : Type 0) (spells : List ℕ → A → Type 0) (formed : A → Type 0) (print : A → List ℕ)
     (refused : List ℕ → List ℕ → Fault → Type 0) : Type 0 where
   pub one : (text : List ℕ) (a b : A) → spells text a → spells text b → a ≡ b
@@ -49,7 +50,7 @@ condition_laws = record {
   none = refused_spells_no_condition;
 }
 
--- the print of what is well-formed is no text that may be refused
+-- the printed text of what is well-formed is no text that may be refused
 pub is_print : {A : Type 0} {spells : List ℕ → A → Type 0} {formed : A → Type 0} {print : A → List ℕ}
     {refused : List ℕ → List ℕ → Fault → Type 0} → Laws A spells formed print refused
     → (text : List ℕ) (a : A) → formed a → text ≡ print a → spells text a

@@ -20,7 +20,7 @@ back_written : (s t : List Lexeme) → AreWellWritten (s ++ t) → AreWellWritte
 back_written [] t w = w
 back_written (x ∷ s) t w = back_written s t w.1
 
--- what stands between the parentheses of a group
+-- what is between the parentheses of a group
 inside_written : (word : List ℕ) (inner : List Lexeme) → AreWellWritten (group word inner) → AreWellWritten inner
 inside_written word inner w = prefix_written inner (RightParen ∷ []) w.1.1
 

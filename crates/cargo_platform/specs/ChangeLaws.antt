@@ -1,5 +1,5 @@
--- Laws of the changes of the grammar of expressions: from the released one to the transitional, and from that to
--- today's.
+-- Laws of the changes of the grammar of expressions: from the released grammar to the transitional one, and from that
+-- to today's.
 use Rattle.std.specs.Prelude.{◌≡◌, ◌⊎◌, ◌↔◌, ◌&&◌, ◌≤◌, ◌<◌, ℕ, Bool, false, List, [], ◌∷◌, ◌++◌, IsTrue, IsFalse}
 use Rattle.std.specs.Prelude.{length, drop, codes}
 use Rattle.std.specs.List.{list_any}
@@ -24,7 +24,7 @@ abbrev pub is_marked_literal : CfgValue → Bool
 is_marked_literal (Alone n) = n.raw && is_literal_name n
 is_marked_literal (KeyPair k v) = false
 
--- what tokens spelled is the tree that they spell, with literals in the place of marked ones, and no other
+-- what tokens spelled is the tree that they spell now, with literals in place of marked ones, and nothing else
 abbrev pub SpelledReleased : List Lexeme → Type 0
 SpelledReleased ts = (d e : Tree) → SpellsTransitional e ts → (SpellsReleased d ts ↔ (d ≡ released e))
 
@@ -41,7 +41,7 @@ IsRefusedAsReleased text fault =
 abbrev pub IsTreeTextAsReleased : List ℕ → Type 0
 IsTreeTextAsReleased text = ((e : Tree) × IsTransitionalTreeText text e) ↔ ((d : Tree) × IsReleasedTreeText text d)
 
--- a text spells the same tree, if no marked literal stands alone in it
+-- a text spells the same tree if it has no marked literal alone
 abbrev pub KeepsTree : List ℕ → Type 0
 KeepsTree text =
     (d e : Tree) → IsReleasedTreeText text d → IsTransitionalTreeText text e
@@ -52,13 +52,13 @@ abbrev pub IsConditionTextAsReleased : List ℕ → Type 0
 IsConditionTextAsReleased text =
     ((p : Condition) × IsTransitionalConditionText text p) ↔ ((q : Condition) × IsReleasedConditionText text q)
 
--- a text spells the same condition, if no marked literal stands alone in it
+-- a text spells the same condition if it has no marked literal alone
 abbrev pub KeepsCondition : List ℕ → Type 0
 KeepsCondition text =
     (p q : Condition) → IsReleasedConditionText text p → IsTransitionalConditionText text q
     → IsFalse (list_any is_marked_literal (condition_values q)) → q ≡ p
 
--- the same texts are refused as conditions, with the same faults of the same texts
+-- the same texts are refused as conditions, with the same faults about the same texts
 abbrev pub IsConditionRefusedAsReleased : List ℕ → List ℕ → Fault → Type 0
 IsConditionRefusedAsReleased text orig fault =
     IsRefusedConditionBy (IsRefusedBy IsAcceptedTransitional Expressions) text orig fault
@@ -71,11 +71,11 @@ abbrev pub is_literal_key : CfgValue → Bool
 is_literal_key (Alone n) = false
 is_literal_key (KeyPair k v) = is_literal_word k
 
--- what a list of tokens spells it spelled
+-- whatever a list of tokens spells now, it spelled
 abbrev pub SpelledTransitional : List Lexeme → Type 0
 SpelledTransitional ts = (e : Tree) → Spells e ts → SpellsTransitional e ts
 
--- a list of tokens that spelled a tree is refused exactly where a literal is a key in it, at any depth
+-- a list of tokens that spelled a tree is refused exactly if a literal is a key in it, at any depth
 abbrev pub IsRefusedForLiteralKeys : List Lexeme → Type 0
 IsRefusedForLiteralKeys ts =
     (e : Tree) → SpellsTransitional e ts
@@ -83,23 +83,24 @@ IsRefusedForLiteralKeys ts =
 
 -- ---- both changes at once: from the released grammar to today's
 
--- what a text spelled is the tree that it spells, with literals in the place of marked ones, and no other
+-- ---- both changes at once: from the released grammar to today's
+-- what a text spelled is the tree that it spells now, with literals in place of marked ones, and nothing else
 abbrev pub SpelledReleasedText : List ℕ → Type 0
 SpelledReleasedText text = (d e : Tree) → IsTreeText text e → (IsReleasedTreeText text d ↔ (d ≡ released e))
 
--- a text that spelled a tree spells none today exactly where a literal is a key in it, at any depth
+-- a text that spelled a tree spells none today exactly if a literal is a key in it, at any depth
 abbrev pub IsTextRefusedForLiteralKeys : List ℕ → Type 0
 IsTextRefusedForLiteralKeys text =
     (d : Tree) → IsReleasedTreeText text d
     → (((e : Tree) → IsTreeText text e → ⊥) ↔ IsTrue (list_any is_literal_key (values d)))
 
--- a fault stays, where what stands before it can still be completed
+-- a fault stays if what is before it can still be completed
 abbrev pub KeepsFault : List ℕ → Fault → Type 0
 KeepsFault text fault =
     (r : IsRefusedBy IsAcceptedReleased Expressions text fault) → IsCompletable Expressions (lexemes r.prefix)
     → IsRefused Expressions text fault
 
--- no more tokens stand before the fault of today than before that of then
+-- there are no more tokens before today's fault than before the former one
 abbrev pub ComesNoLater : List ℕ → Fault → Fault → Type 0
 ComesNoLater text before now =
     (r : IsRefusedBy IsAcceptedReleased Expressions text before) (q : IsRefused Expressions text now)
@@ -122,37 +123,38 @@ pub record IsAtLiteralKey (text : List ℕ) (fault : Fault) (q : IsRefused Expre
   pub is_equals : equals.token ≡ Equals
   -- with `=` the tokens could still be completed
   pub went_on : IsCompletableBy IsAcceptedReleased (lexemes q.prefix ++ Equals ∷ [])
-  -- a literal that begins the text is a whole expression; in a group `)` is expected after it
+  -- if the literal begins the text, it is a whole expression; in a group, `)` is expected after it
   pub at_start : before ≡ [] → fault ≡ UnterminatedExpression (drop equals.start text)
   pub in_group : (before ≡ [] → ⊥) → fault ≡ UnexpectedToken (codes "`)`") (codes "`=`")
 
--- today's fault was there, or it is at `=` after a literal
+-- today's fault was the former one, or is at `=` after a literal
 abbrev pub WasThereOrIsAtKey : List ℕ → Fault → Type 0
 WasThereOrIsAtKey text fault = (q : IsRefused Expressions text fault) → WasThere q ⊎ IsAtLiteralKey text fault q
 
--- where today's fault is at `=` after a literal, more tokens stood before the fault of then
+-- if today's fault is at `=` after a literal, there were more tokens before the former fault
 abbrev pub CameLaterAtKey : List ℕ → Fault → Fault → Type 0
 CameLaterAtKey text before now =
     (r : IsRefusedBy IsAcceptedReleased Expressions text before) (q : IsRefused Expressions text now)
     → IsAtLiteralKey text now q → length q.prefix < length r.prefix
 
--- it is there where the text spelled a tree
+-- today's fault is there if the text spelled a tree
 abbrev pub IsAtKeyWhereRead : List ℕ → Fault → Type 0
 IsAtKeyWhereRead text now =
     (d : Tree) (q : IsRefused Expressions text now) → IsReleasedTreeText text d → IsAtLiteralKey text now q
 
 -- ---- well-formed trees, and warnings
 
--- a tree was well-formed exactly where it was so in the transitional grammar, and no marked literal stands alone in it
+-- ---- well-formed trees, and warnings
+-- a tree was well-formed exactly if it was so in the transitional grammar, and has no marked literal alone
 abbrev pub WasWellFormedWithoutMarkedLiterals : Tree → Type 0
 WasWellFormedWithoutMarkedLiterals e =
     IsWellFormedReleased e ↔ (IsWellFormedTransitional e × IsFalse (list_any is_marked_literal (values e)))
 
--- a tree is well-formed exactly where it was so in the transitional grammar, and no literal is a key in it
+-- a tree is well-formed exactly if it was so in the transitional grammar, and no literal is a key in it
 abbrev pub IsWellFormedWithoutLiteralKeys : Tree → Type 0
 IsWellFormedWithoutLiteralKeys e =
     IsWellFormed e ↔ (IsWellFormedTransitional e × IsFalse (list_any is_literal_key (values e)))
 
--- no text gives a warning on a keyword
+-- no text leads to a warning about a keyword
 abbrev pub GivesNoKeyword : List ℕ → Type 0
 GivesNoKeyword text = (path : List ℕ) (p : Condition) → IsConditionText text p → keyword_warnings path p ≡ []

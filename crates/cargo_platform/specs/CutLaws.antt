@@ -1,4 +1,4 @@
--- Laws of the cut of a text, and of how a tokenizer goes through it.
+-- Laws of the cut of a text, and of the calls of a tokenizer.
 use Rattle.std.specs.Prelude.{◌≡◌, ◌↔◌, ℕ, List, Option, Some, None, Result, Err}
 use Rattle.cargo_platform.specs.declared.tokens.Spanned.{Spanned}
 use Rattle.cargo_platform.specs.declared.tokens.TokenFault.{TokenFault}
@@ -6,29 +6,29 @@ use Rattle.cargo_platform.specs.Tokens.{Placed}
 use Rattle.cargo_platform.specs.Cut.{IsCut}
 use Rattle.cargo_platform.specs.Reading.{Progress, GoesThrough, NextGives}
 
--- a text has a cut, and no other
+-- a text has exactly one cut
 abbrev pub HasOneCut : List ℕ → Type 0
 HasOneCut text =
     (ts : List Placed) × (tail : ℕ) × IsCut text ts tail
     × ((us : List Placed) (end : ℕ) → IsCut text us end → (us ≡ ts) × (end ≡ tail))
 
--- calls from the start of a text give the tokens of its cut in order, and then its tail
+-- from the start of a text, calls return the tokens of its cut in order, and then its tail
 abbrev pub CutsAreRead : List ℕ → Type 0
 CutsAreRead text = (ts : List Placed) (tail : ℕ) → GoesThrough text ts tail ↔ IsCut text ts tail
 
--- they give no other tokens, and come to no other tail
+-- they return no other tokens, and reach no other tail
 abbrev pub IsReadAlike : List ℕ → Type 0
 IsReadAlike text = (ts us : List Placed) (tail end : ℕ) → IsCut text ts tail → GoesThrough text us end
     → (us ≡ ts) × (end ≡ tail)
 
--- whatever a call gives at this progress, it is nothing
+-- any call at this progress returns nothing
 abbrev pub GivesNoMore : Progress → Type 0
 GivesNoMore p = (r : Option (Result Spanned TokenFault)) (new : Progress) → NextGives p r new → r ≡ None
 
--- once a call gave nothing, no call gives more
+-- once a call returned nothing, every call does
 abbrev pub EndsForGood : Progress → Progress → Type 0
 EndsForGood old new = NextGives old None new → GivesNoMore new
 
--- after the fault of a tail no call gives more
+-- after the fault of a tail, every call returns nothing
 abbrev pub FailsOnce : Progress → Progress → Type 0
 FailsOnce old new = (fault : TokenFault) → NextGives old (Some (Err fault)) new → GivesNoMore new

@@ -1,4 +1,4 @@
--- Earlier grammars of expressions under names of their own, so that each change is a statement between two of them.
+-- Earlier grammars of expressions, under their own names, so that each change is a statement about two grammars.
 use Rattle.std.specs.Prelude.{◌≡◌, ℕ, Bool, ◌&&◌, ◌||◌, if◌then◌else◌, List, [], ◌∷◌, codes, IsFalse, bytes_eq}
 use Rattle.cargo_platform.specs.Tokens.{Lexeme, Ident}
 use Rattle.cargo_platform.specs.Trees.{Name, CfgValue, Alone, KeyPair, Tree, Not, All, Any, Value, True, False, Trees}

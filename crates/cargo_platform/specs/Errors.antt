@@ -1,4 +1,4 @@
--- What an error says, apart from where it lies in memory.
+-- What an error says, whatever its place in memory.
 use Rattle.std.specs.Prelude.{ℕ, List, map, String, Vec, string_bytes, box_value, Option, Some, None, Result, Ok, Err}
 use Rattle.std.specs.declared.alloc.Global.{Global}
 use Rattle.std.specs.declared.ops.Range.{Range}
@@ -11,7 +11,7 @@ use Rattle.cargo_platform.specs.Faults.{Fault, UnterminatedString, UnexpectedCha
 use Rattle.cargo_platform.specs.Faults.{UnterminatedExpression, InvalidTarget}
 use Rattle.cargo_platform.specs.Print.{print_error}
 
--- what a kind stands for
+-- the fault that a kind means
 abbrev pub fault_meant : ParseErrorKind → Fault
 fault_meant kind.UnterminatedString = UnterminatedString
 fault_meant (kind.UnexpectedChar c) = UnexpectedChar c
@@ -20,28 +20,28 @@ fault_meant (kind.IncompleteExpr expected) = IncompleteExpr expected.now
 fault_meant (kind.UnterminatedExpression s) = UnterminatedExpression (string_bytes s)
 fault_meant (kind.InvalidTarget s) = InvalidTarget (string_bytes s)
 
--- the text that the error is of, and why
+-- the text that the error is about, and the reason
 abbrev pub orig_of : ParseError → List ℕ
 orig_of e = string_bytes (box_value e.refused).orig
 
 abbrev pub fault_in : ParseError → Fault
 fault_in e = fault_meant e.kind
 
--- where the fault lies in that text; an error that is made by hand has no such place
+-- the place of the fault in that text; an error that is built by hand has none
 abbrev pub span_in : ParseError → Option (Range ℕ)
 span_in e = (box_value e.refused).span
 
--- what is said of a refusal, where it is no allocation failure
+-- a statement about a refusal that is not an allocation failure
 abbrev pub IfParse : {A : Type 0} → Result A ReadError → (ParseError → Type 0) → Type 0
 IfParse (Ok a) P = Unit {0}
 IfParse (Err (errors.Parse e)) P = P e
 IfParse (Err (errors.Memory e)) P = Unit {0}
 
--- the texts that a list of strings holds
+-- the texts in a list of strings
 abbrev pub texts : Vec (String Global) Global → List (List ℕ)
 texts v = map (λ s. string_bytes s) v.items
 
--- what a refusal prints: a parse error its text; nothing of an allocation failure
+-- what a refusal prints: the text of a parse error; nothing is said of an allocation failure
 abbrev pub print_refusal : ReadError → Option (List ℕ)
 print_refusal (errors.Parse e) = Some (print_error (orig_of e) (fault_in e))
 print_refusal (errors.Memory e) = None

@@ -1,4 +1,4 @@
--- How many expressions stand in an expression, itself among them.
+-- The number of expressions within an expression, including itself.
 use Rattle.std.specs.Prelude.{ℕ, ◌+◌, List, sum, map, box_value}
 use Rattle.cargo_platform.specs.declared.cfg.CfgExpr.{CfgExpr, fold-CfgExpr}
 use Rattle.cargo_platform.specs.declared.cfg.CfgExpr.TheOpen as layer

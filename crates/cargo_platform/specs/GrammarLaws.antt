@@ -14,7 +14,7 @@ HasOneTree ts = (d e : Tree) → Spells d ts → Spells e ts → d ≡ e
 abbrev pub HasOneValue : List Lexeme → Type 0
 HasOneValue ts = (c d : CfgValue) → ts ≡ value_spelling c → ts ≡ value_spelling d → c ≡ d
 
--- a list of well-written tokens spells well-formed values and trees only
+-- a list of well-written tokens spells only well-formed values and trees
 abbrev pub SpellsWellFormed : List Lexeme → Type 0
 SpellsWellFormed ts =
     AllByRecursion IsWellWritten ts

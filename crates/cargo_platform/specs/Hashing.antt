@@ -1,4 +1,4 @@
--- What a hasher is fed: a list of writes, each a list of bytes. Raw marks are no part of it.
+-- The input of a hasher: a list of writes, each a list of bytes. Raw marks are not part of it.
 use Rattle.std.specs.Prelude.{◌≡◌, ℕ, suc, [], ◌++◌, refl}
 use Rattle.std.proofs.Common.{ap, ◌∙◌, sym}
 use Rattle.std.specs.Hash as fed
@@ -20,7 +20,7 @@ abbrev pub count : Trees → ℕ
 count none = 0
 count (tree e es) = suc (count es)
 
--- the form, and then the parts; before the members of a group, how many there are
+-- the form, and then the parts; the members of a group come after their number
 abbrev mutual
   pub tree_hash : Tree → fed.HashWrites
   tree_hash (Not e) = fed.u8 0 ++ tree_hash e
@@ -34,7 +34,7 @@ abbrev mutual
   trees_hash none = []
   trees_hash (tree e es) = tree_hash e ++ trees_hash es
 
--- how many members, and then each
+-- the number of members, and then each member
 abbrev pub group_hash : Trees → fed.HashWrites
 group_hash es = fed.usize (count es) ++ trees_hash es
 
@@ -43,7 +43,7 @@ abbrev pub condition_hash : Condition → fed.HashWrites
 condition_hash (Target name) = fed.u8 0 ++ fed.str name
 condition_hash (Expression e) = fed.u8 1 ++ tree_hash e
 
--- the writes of a key are those of the value, so equal values are fed alike
+-- the writes of a key are those of the value, so equal values give a hasher the same input
 pub value_key_hash : (c : CfgValue) → value_hash (value_key c) ≡ value_hash c
 value_key_hash (Alone n) = refl
 value_key_hash (KeyPair k v) = refl

@@ -1,4 +1,4 @@
--- Words for the sets of pairs that holders of one's own mean.
+-- Names for the sets of pairs that user-defined holders represent.
 use Rattle.std.specs.Prelude.{ℕ, Bool, List, [], ◌∷◌, Some, None, ◌&&◌, false, bytes_eq, if◌then◌else◌}
 use Rattle.std.specs.FinSet.{empty, from_list}
 use Rattle.cargo_platform.specs.Trees.{CfgValue, Alone, KeyPair}
@@ -18,11 +18,11 @@ no_facts = empty
 abbrev pub only : Pair → FactSet
 only p = from_list (p ∷ [])
 
--- the facts if the flag is set, and else none
+-- the facts if the flag is set, and otherwise none
 abbrev pub where_set : Bool → FactSet → FactSet
 where_set flag facts = if flag then facts else no_facts
 
--- whether a value asks for this name alone, or for this key with this value; the raw mark plays no part
+-- whether a value tests for this name alone, or for this key with this value; the raw mark plays no part
 abbrev pub asks_name : List ℕ → CfgValue → Bool
 asks_name name (Alone n) = bytes_eq n.name name
 asks_name name (KeyPair k v) = false

@@ -1,28 +1,28 @@
--- What the contracts of private functions and types cite, and no promise rests on. Each module stands on those before
--- it.
+-- Definitions for the contracts of private functions and types. No promise depends on them. Each module uses those
+-- before it.
 
 -- ---- reading
--- Looking: what a look at a place of a text gives, and what looks cost
+-- Looking: what a look at a position of a text finds, and the cost of looks
 pub mod Looking
 -- Scanning: what the parts of a tokenizer find in the text
 pub mod Scanning
--- Ahead: what is ahead of a reader, and how it goes on from one token to the next
+-- Ahead: what is ahead of a reader, and how it moves from one token to the next
 pub mod Ahead
--- Refusals: the error that a refusal of a text is reported as
+-- Refusals: the error that reports a refusal
 pub mod Refusals
 -- Parsing: what a reader takes and refuses
 pub mod Parsing
 -- ---- spans
--- LineStarts: what stands in a text from a line on
+-- LineStarts: the rest of a text from a line on
 pub mod LineStarts
--- FurtherSpans: spans that lie further in a larger text
+-- FurtherSpans: spans that are moved into a larger text
 pub mod FurtherSpans
 -- ---- trees
--- Asking: whether an expression or its negation is asked for, and how asks are counted
+-- Asking: whether an expression or its negation is evaluated, and how queries are counted
 pub mod Asking
--- Folding: the groups around an expression that is folded, what they make the whole, and what is left to do
+-- Folding: the groups around an expression that is folded, the whole that they make, and the work that is left
 pub mod Folding
--- Copying: what a copy is a part of
+-- Copying: the whole that a copy is part of
 pub mod Copying
 -- Printing: how an expression is written, and the parentheses that end it
 pub mod Printing

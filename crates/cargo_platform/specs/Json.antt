@@ -1,11 +1,11 @@
--- Conditions as JSON texts.
+-- Conditions as JSON strings.
 use Rattle.std.specs.Prelude.{◌≡◌, ℕ, List, Result, Ok, Err}
 use Rattle.serde_json.specs.Data.{Data, string}
 use Rattle.cargo_platform.specs.declared.error.ParseError.{ParseError}
 use Rattle.cargo_platform.specs.declared.json.JsonError.{JsonError}
 use Rattle.cargo_platform.specs.declared.json.JsonError.TheVariants as errors
 
--- what is said of the refusal of a text, where it is no allocation failure
+-- a statement about the refusal of a text that is not an allocation failure
 abbrev pub IfJsonParse : {A : Type 0} → Result A JsonError → (ParseError → Type 0) → Type 0
 IfJsonParse (Ok a) P = Unit {0}
 IfJsonParse (Err errors.NotText) P = Unit {0}

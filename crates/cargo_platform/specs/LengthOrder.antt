@@ -12,11 +12,11 @@ abbrev pub asked_length : CfgValue → ℕ
 asked_length (Alone n) = length n.name
 asked_length (KeyPair k v) = length v
 
--- by these lengths, and where they are equal in the order of values
+-- by these lengths, and then in the order of values
 abbrev pub length_cmp : CfgValue → CfgValue → Ordering
 length_cmp c d = ordering_then (nat_cmp (asked_length c) (asked_length d)) (value_cmp c d)
 
--- what the members of an index's two lists stand for
+-- the values that the members of an index's two lists mean
 abbrev pub alone : Ident → CfgValue
 alone i = Alone (name_of i)
 

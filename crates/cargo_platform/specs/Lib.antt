@@ -1,6 +1,6 @@
--- The definitions. Each module stands on those before it. For `CfgExpr::from_str` read Chars, Tokens, Cut, Trees,
--- Spelling, Faults, Print, Errors and WellFormed; for `matches` Trees and Facts; for a print Tokens, Trees and Print.
--- Contracts stand in src: cfg.rt (facts, expressions, looks), platforms.rt, fact_lines.rt, facts.rt (matching) and
+-- The definitions. Each module uses those before it. For `CfgExpr::from_str` read Chars, Tokens, Cut, Trees, Spelling,
+-- Faults, Print, Errors and WellFormed; for `matches` Trees and Facts; for `Display` Tokens, Trees and Print. The
+-- contracts are in src: cfg.rt (facts, expressions, looks), platforms.rt, fact_lines.rt, facts.rt (matching) and
 -- warnings.rt.
 
 -- ---- text and tokens
@@ -8,39 +8,39 @@
 pub mod Chars
 -- Tokens: the tokens, and how each is written
 pub mod Tokens
--- Cut: what comes next in a text, a token or a lexical fault, and how it is cut into tokens
+-- Cut: what comes next in a text, which is a token or a lexical fault, and how the text is cut into tokens
 pub mod Cut
 -- Reading: one call of `next` after another, with its looks
 pub mod Reading
--- CutLaws: each text has one cut, and the tokenizer gives it
+-- CutLaws: each text has one cut, and the tokenizer returns it
 pub mod CutLaws
 -- ---- trees
--- Trees: names, pairs, expressions and conditions, apart from memory
+-- Trees: names, pairs, expressions and conditions, whatever their place in memory
 pub mod Trees
--- ViewLaws: a value of the program is seen form by form
+-- ViewLaws: the tree of a value is determined form by form
 pub mod ViewLaws
 -- Sizes: how large and how deep a tree is
 pub mod Sizes
--- ExpressionSizes: how many expressions stand in an expression
+-- ExpressionSizes: the number of expressions in an expression
 pub mod ExpressionSizes
--- Parts: the expression that its parts make
+-- Parts: the expression that parts make up
 pub mod Parts
 -- ---- grammar
 -- Spelling: which tokens spell which tree
 pub mod Spelling
--- Nesting: how many groups of a text lie in one another
+-- Nesting: how deeply the groups of a text are nested
 pub mod Nesting
 -- ---- faults
--- Faults: why a text is refused, what is expected, and the span of each fault but of a target name
+-- Faults: why a text is refused, what is expected, and the span of each fault, except for target names
 pub mod Faults
--- Walk: the automaton of both grammars, its positions and the states that laws name, for proofs
+-- Walk: the automaton of both grammars, its positions, and the states that laws name, for proofs
 pub mod Walk
 -- FaultLaws: laws of completion and of the fault prefix
 pub mod FaultLaws
 -- ---- printing
--- Print: what is printed, of every tree and fault
+-- Print: the printed text of every tree and fault
 pub mod Print
--- Errors: what an error says, apart from memory
+-- Errors: what an error says, whatever its place in memory
 pub mod Errors
 -- Snippets: two lines that show the place of a fault
 pub mod Snippets
@@ -51,47 +51,47 @@ pub mod Platforms
 pub mod WellFormed
 -- GrammarLaws: tokens spell at most one thing
 pub mod GrammarLaws
--- TextLaws: a text spells something or has a fault, and one of them
+-- TextLaws: a text either spells something or has a fault
 pub mod TextLaws
 -- KeySpans: the place of a fault in the key of a manifest
 pub mod KeySpans
--- Json: conditions as JSON texts
+-- Json: conditions as JSON strings
 pub mod Json
 -- Earlier: the earlier grammars
 pub mod Earlier
 -- ---- matching
--- Facts: sets of facts, and the truth over one
+-- Facts: sets of facts, and truth over such a set
 pub mod Facts
--- Asks: how often a holder of them is asked
+-- Asks: the number of queries to a holder of facts
 pub mod Asks
--- FactLaws: what truth rests on
+-- FactLaws: what truth depends on
 pub mod FactLaws
--- Holders: words for the sets that holders of one's own mean
+-- Holders: names for the sets that user-defined holders represent
 pub mod Holders
 -- ---- lines of facts
--- Lines: where a line ends: at U+000A alone, so that a carriage return is a part of it
+-- Lines: the lines of a text, which end at U+000A alone, so that a carriage return is part of a line
 pub mod Lines
 -- FactLines: facts, one on each line; none is skipped
 pub mod FactLines
--- SpanLaws: laws of what stands around a span, and of spans in lines of facts
+-- SpanLaws: laws of the text around a span, and of spans in lines of facts
 pub mod SpanLaws
 -- ---- equality, order and hash
--- Key: what they see of a value: all but the raw marks
+-- Key: what is compared of a value: everything but the raw marks
 pub mod Key
 -- OrderLaws: the order of keys is total
 pub mod OrderLaws
--- Hashing: what a hasher is fed
+-- Hashing: the input of a hasher
 pub mod Hashing
 -- ---- an index of facts
 -- LengthOrder: the order in which an index keeps facts
 pub mod LengthOrder
--- FactIndexes: what it keeps
+-- FactIndexes: the facts that an index keeps
 pub mod FactIndexes
 -- ---- warnings
--- Warnings: the values of a tree, and the warnings on them
+-- Warnings: the values of a tree, and the warnings about them
 pub mod Warnings
--- ChangeLaws: what the grammar changed
+-- ChangeLaws: the changes of the grammar
 pub mod ChangeLaws
 -- ---- for private functions
--- Inside: what their contracts cite, and no promise rests on
+-- Inside: definitions for their contracts, on which no promise depends
 pub mod Inside

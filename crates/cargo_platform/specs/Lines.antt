@@ -1,4 +1,4 @@
--- The lines of a text. A line is named by its number, counted from 1.
+-- The lines of a text. A line is identified by its number, counted from 1.
 use Rattle.std.specs.Prelude.{ℕ, ◌≡◌, ◌≢◌, ◌⊎◌, ◌-◌, ◌==◌, List, [], ◌∷◌, ◌++◌, not, IsTrue, flat_map, slice_index_or}
 use Rattle.std.specs.Prelude.{if◌then◌else◌}
 use Rattle.std.specs.List.{onto_first, list_all, AllByRecursion}
@@ -7,16 +7,16 @@ use Rattle.std.specs.List.{onto_first, list_all, AllByRecursion}
 abbrev pub line : List ℕ → List ℕ
 line text = text ++ (10 ∷ [])
 
--- the lines of a text: a newline ends a line, and after the last one a line stands only where a byte does
+-- the lines of a text: a newline ends a line, and after the last one there is a line only if a byte follows
 abbrev pub lines_of : List ℕ → List (List ℕ)
 lines_of [] = []
 lines_of (b ∷ bs) = if b == 10 then [] ∷ lines_of bs else onto_first b (lines_of bs)
 
--- the line of this number, and the empty text where there is none
+-- the line with this number, or the empty text if there is none
 abbrev pub line_at : List (List ℕ) → ℕ → List ℕ
 line_at ls n = slice_index_or ls (n - 1) []
 
--- no newline stands in the text
+-- the text has no newline
 abbrev pub IsUnbroken : List ℕ → Type 0
 IsUnbroken text = IsTrue (list_all (λ b. not (b == 10)) text)
 
@@ -24,8 +24,8 @@ IsUnbroken text = IsTrue (list_all (λ b. not (b == 10)) text)
 abbrev pub ended : List (List ℕ) → List ℕ
 ended ls = flat_map line ls
 
--- The lines of a text: no newline stands in one, and the text is each of them with its end, where the last one, if it
--- is not empty, may stand without its end.
+-- The lines of a text: none has a newline, and the text is each of them with its end. The last one, if it is not empty,
+-- may be without its end.
 pub record AreLines (text : List ℕ) (ls : List (List ℕ)) : Type 0 where
   pub unbroken : AllByRecursion IsUnbroken ls
   pub parts : (text ≡ ended ls)

@@ -1,4 +1,4 @@
--- Laws of the order of keys: it is total, it sees the key alone, and only equal keys tie.
+-- Laws of the order of keys: it is total, it compares the key alone, and only equal keys tie.
 use Rattle.std.specs.Prelude.{◌≡◌, ◌↔◌, ℕ, false, List, [], ◌∷◌, Option, Some, None, refl}
 use Rattle.std.proofs.Common.{sym, ap, ◌∙◌, subst, true≢false}
 use Rattle.std.specs.declared.cmp.Ordering.{Ordering}
@@ -72,7 +72,7 @@ value_total =
     (λ i c d. value_by_parts c d i)
     (then_total (on_total form nat_cmp_total) (then_total (on_total name_or_key name_total) (on_texts value_part)))
 
--- a step of the walk over a tree from its root: a form, and the value where it has one
+-- a step of the walk over a tree from its root: a form, and the value if it has one
 record Step : Type 0 where
   pub rank : ℕ
   pub value : Option CfgValue
@@ -88,7 +88,7 @@ step_total =
 abbrev step : ℕ → Step
 step n = record { rank = n; value = None }
 
--- the steps of a tree, before those that come after; a list of members says at each place whether one more follows
+-- the steps of a tree, before those that come after; in a list of members, each place says whether another one follows
 abbrev mutual
   walked : Tree → List Step → List Step
   walked (Not e) after = step 0 ∷ walked e after
@@ -229,7 +229,7 @@ condition_tie (Target s) (Expression e) h = not_Less _ h
 condition_tie (Expression d) (Target t) h = not_Greater _ h
 condition_tie (Expression d) (Expression e) h = ap Expression (tree_tie d e h)
 
--- an order that sees the key alone answers `Equal` exactly where the keys are equal
+-- an order that compares the key alone is `Equal` exactly if the keys are equal
 equal_iff : {K : Type 0} {R : K → K → Ordering} (k : K → K) → IsTotalOrder R → ((x y : K) → R (k x) (k y) ≡ R x y)
     → ((x y : K) → R x y ≡ Equal → k x ≡ k y) → (x y : K) → (R x y ≡ Equal) ↔ (k x ≡ k y)
 equal_iff {R = R} k total sees ties x y =

@@ -1,4 +1,4 @@
--- The expression that parts make.
+-- The expression that parts make up.
 use Rattle.cargo_platform.specs.declared.cfg.CfgExpr.{CfgExpr}
 use Rattle.cargo_platform.specs.declared.cfg.CfgExpr.TheVariants as expression
 use Rattle.cargo_platform.specs.declared.cfg.CfgExprParts.{CfgExprParts}

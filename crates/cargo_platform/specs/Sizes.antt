@@ -1,8 +1,8 @@
--- How large and how deep a tree is.
+-- The size and the depth of a tree.
 use Rattle.std.specs.Prelude.{ℕ, ◌+◌, max}
 use Rattle.cargo_platform.specs.Trees.{Tree, Not, All, Any, Value, True, False, Trees, none, tree}
 
--- how many groups, negations, values and literals stand in it
+-- the number of groups, negations, values and literals in the tree
 abbrev mutual
   pub size : Tree → ℕ
   size (Not e) = 1 + size e
@@ -16,7 +16,7 @@ abbrev mutual
   sizes none = 0
   sizes (tree e es) = size e + sizes es
 
--- how many of them stand on the longest way down, with both ends
+-- the number of them on the longest path down, with both ends
 abbrev mutual
   pub depth : Tree → ℕ
   depth (Not e) = 1 + depth e

@@ -1,4 +1,4 @@
--- Two lines that show where a text is refused: the text, and carets under the span with the print of the fault after.
+-- Two lines that show where a text is refused: the text, and carets under the span with the printed fault after them.
 use Rattle.std.specs.Prelude.{◌≡◌, ℕ, ◌+◌, ◌-◌, min, max, Bool, true, false, ◌||◌, ◌==◌, nat_le, nat_lt, List, ◌++◌}
 use Rattle.std.specs.Prelude.{if◌then◌else◌, map, length, take, drop, codes, Option, None, Some, slice_range}
 use Rattle.std.specs.Prelude.{encode_utf8_all, string_bytes, String}
@@ -45,12 +45,13 @@ abbrev pub is_hidden_category : GeneralCategory → Bool
 is_hidden_category g =
     is_mark_category g || is_separator_category g || is_control_category g || is_other_category g
 
--- the character that stands for one
+-- the character that is shown for a character
 abbrev pub shown : ℕ → ℕ
 shown c = if c == 0x20 then c else (if is_hidden_category (general_category c) then 0xFFFD else c)
 
--- Which characters are shown, of so many, where so many stand before the span and so many in it: of at most 100 all;
--- of more from up to 40 before the span on, of a longer span its first 40, and else 100 in all.
+-- The indexes of the characters that are shown, by the size of the text and how many characters are before the span and
+-- in it: all of at most 100; of more, up to 40 before the span, the first 40 of a longer span, and 100 in all
+-- otherwise.
 abbrev pub first_shown : ℕ → ℕ → ℕ
 first_shown size before = if nat_le size 100 then 0 else before - 40
 
@@ -59,11 +60,11 @@ end_shown size before inside =
     if nat_le size 100 then size
     else (if nat_lt 40 inside then min size (before + 40) else min size (before - 40 + 100))
 
--- `..` where something is cut
+-- `..` if something is cut
 abbrev pub dots : Bool → List ℕ
 dots is_cut = if is_cut then codes ".." else codes ""
 
--- the characters from one number up to another, each as it is shown
+-- the characters from one index up to another, as they are shown
 abbrev pub shown_part : List ℕ → ℕ → ℕ → List ℕ
 shown_part cs first end =
     dots (nat_lt 0 first) ++ (encode_utf8_all (map shown (take (end - first) (drop first cs)))
@@ -76,7 +77,7 @@ shown_line cs before inside = shown_part cs (first_shown (length cs) before) (en
 abbrev pub margin : Bool → List ℕ
 margin is_cut = if is_cut then codes "  " else codes ""
 
--- how many carets there are: one for each character of the span that is shown, and at least one
+-- the number of carets: one for each character of the span that is shown, and at least one
 abbrev pub caret_count : ℕ → ℕ → ℕ → ℕ
 caret_count size before inside = max 1 (min inside (end_shown size before inside - before))
 
@@ -86,14 +87,14 @@ carets size before inside =
     margin (nat_lt 0 (first_shown size before)) ++ (repeat (before - first_shown size before) (codes " ")
     ++ repeat (caret_count size before inside) (codes "^"))
 
--- the fault with the user's text in it as it is shown, as a line that has no span
+-- the fault with the user's text in it as it is shown, in the form of a line that has no span
 abbrev pub shown_fault : Fault → Fault
 shown_fault (UnexpectedChar c) = UnexpectedChar (shown c)
 shown_fault (UnterminatedExpression rest) = UnterminatedExpression (shown_line (chars rest) 0 0)
 shown_fault (InvalidTarget message) = InvalidTarget (shown_line (chars message) 0 0)
 shown_fault fault = fault
 
--- the two lines, of a text with so many characters before the span and so many in it
+-- the two lines of a text with this many characters before the span and in it
 abbrev pub lines_by : List ℕ → ℕ → ℕ → Fault → List ℕ
 lines_by text before inside fault =
     shown_line (chars text) before inside ++ (codes "\n" ++ (carets (length (chars text)) before inside
@@ -105,7 +106,7 @@ lines text span fault =
     lines_by text (length (chars (slice_range text 0 span.start)))
     (length (chars (slice_range text span.start span.end))) fault
 
--- the snippet of a text, by where the fault lies in it; with no span there is none
+-- the snippet of a text, by the place of the fault in it; without a span there is none
 abbrev pub IsSnippet : List ℕ → Option (Range ℕ) → Fault → Option (String Global) → Type 0
 IsSnippet text None fault snippet = snippet ≡ None
 IsSnippet text (Some span) fault snippet = IsSpanIn text span

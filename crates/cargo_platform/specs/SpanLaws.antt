@@ -1,4 +1,4 @@
--- Laws of what stands before the span of a fault, and of spans in a text of facts.
+-- Laws of the text before the span of a fault, and of spans in a text of facts.
 use Rattle.std.specs.Prelude.{◌≡◌, ◌⊎◌, ℕ, Bool, List, [], codes, take, drop, Option, Some, IsFalse}
 use Rattle.std.specs.declared.ops.Range.{Range}
 use Rattle.cargo_platform.specs.declared.tokens.TokenFaultKind.{TokenFaultKind}
@@ -16,7 +16,7 @@ use Rattle.cargo_platform.specs.FactLines.{IsFirstNoFact, IsSpanInFacts}
 abbrev pub before_span : {g : Grammar} {text : List ℕ} {fault : Fault} → IsRefused g text fault → List ℕ
 before_span {text = text} r = take (span_of text r.accepted r.next).start text
 
--- nothing, or the mark `r#` of a lexical fault that comes at this place after a prefix that is not accepted
+-- nothing, or the mark `r#` of a lexical fault that comes at this position after a prefix that is not accepted
 abbrev pub IsNothingOrMark : List ℕ → Bool → Item → ℕ → Type 0
 IsNothingOrMark left accepted next place =
     (left ≡ []) ⊎ ((left ≡ codes "r#") × IsFalse accepted × ((kind : TokenFaultKind) × (next ≡ Lexical kind place)))
@@ -27,15 +27,15 @@ IsCutBefore r =
     (tail : ℕ) × IsCut (before_span r) r.prefix tail
     × IsNothingOrMark (drop tail (before_span r)) r.accepted r.next tail
 
--- the error of a refused text of facts: it is of the first line that spells no fact, with the fault of that line and
--- its span
+-- the error of a refused text of facts: it is about the first line that spells no fact, with the fault and the span of
+-- that line
 abbrev pub IsErrorOfFacts : List ℕ → FactsError → Type 0
 IsErrorOfFacts text (Line number e) =
     IsFirstNoFact (lines_of text) number × (orig_of e ≡ line_at (lines_of text) number)
     × IsRefusedAt Values (line_at (lines_of text) number) (fault_in e) (span_in e)
 IsErrorOfFacts text (Memory e) = ⊥
 
--- where a text of facts is refused, a span lies in it, in order and at characters
+-- if a text of facts is refused, a span is within it, in order, and begins and ends between characters
 abbrev pub IsFoundInFacts : List ℕ → FactsError → Option (Range ℕ) → Type 0
 IsFoundInFacts text error found = IsErrorOfFacts text error
     → IsSpanInFacts text error found → (at : Range ℕ) × (found ≡ Some at) × IsSpanIn text at

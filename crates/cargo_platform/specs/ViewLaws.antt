@@ -1,4 +1,4 @@
--- Laws of the view of an expression: each form of the program's is seen as the form of that name.
+-- Laws of the tree of an expression: each form of the program is the form of that name in the tree.
 use Rattle.std.specs.Prelude.{◌≡◌, map, Box, Vec, box_value}
 use Rattle.std.specs.declared.alloc.Global.{Global}
 use Rattle.cargo_platform.specs.declared.cfg.Cfg.{Cfg}

@@ -1,4 +1,4 @@
--- The values of a tree from left to right, and the warnings on them.
+-- The values of a tree from left to right, and the warnings about them.
 use Rattle.std.specs.Prelude.{◌≡◌, ℕ, Bool, ◌||◌, if◌then◌else◌, List, [], ◌∷◌, ◌++◌, codes, bytes_eq, flat_map}
 use Rattle.cargo_platform.specs.Trees.{Name, CfgValue, Alone, KeyPair, Tree, Not, All, Any, Value, True, False, Trees}
 use Rattle.cargo_platform.specs.Trees.{none, tree, Condition, Target, Expression}
@@ -23,7 +23,7 @@ abbrev pub condition_values : Condition → List CfgValue
 condition_values (Target name) = []
 condition_values (Expression e) = values e
 
--- what the warning says after the name
+-- the part of the warning after the name
 abbrev pub unsupported_text : List ℕ
 unsupported_text =
     codes "` in `target.'cfg(...)'.dependencies`. "
@@ -31,18 +31,18 @@ unsupported_text =
     ++ codes "To learn more visit "
     ++ codes "https://doc.rust-lang.org/cargo/reference/specifying-dependencies.html#platform-specific-dependencies"
 
--- the warning on a name that no target sets
+-- the warning about a name that no target sets
 abbrev pub unsupported_name : Name → List ℕ
 unsupported_name n = codes "Found `" ++ print_name n ++ unsupported_text
 
--- the warning on the key `feature`
+-- the warning about the key `feature`
 abbrev pub unsupported_feature : List ℕ
 unsupported_feature =
     codes "Found `feature = ...` in `target.'cfg(...)'.dependencies`. "
     ++ codes "This key is not supported for selecting dependencies and will not work as expected. "
     ++ codes "Use the [features] section instead: https://doc.rust-lang.org/cargo/reference/features.html"
 
--- the warning on a keyword in the place of an identifier
+-- the warning about a keyword in place of an identifier
 abbrev pub keyword_warning : List ℕ → CfgValue → List ℕ → List ℕ
 keyword_warning path c word =
     codes "[" ++ path ++ codes "] future-incompatibility: `cfg(" ++ print_value c ++ codes ")` is deprecated as `"
@@ -76,6 +76,6 @@ attribute_warnings p = flat_map attribute_warning (condition_values p)
 abbrev pub keyword_warnings : List ℕ → Condition → List (List ℕ)
 keyword_warnings path p = flat_map (keyword_warning_of path) (condition_values p)
 
--- the second list, with more after it
+-- the second list begins with the first
 abbrev pub IsLonger : List (List ℕ) → List (List ℕ) → Type 0
 IsLonger longer texts = (more : List (List ℕ)) × (longer ≡ texts ++ more)

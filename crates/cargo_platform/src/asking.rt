@@ -1,7 +1,7 @@
-//! Asks of a holder of facts, and how many there are.
+//! Counts the queries to a holder of facts.
 //!
-//! Matching knows its holder as `Asked` alone, whose one call counts each ask. What counts is a type that matching
-//! knows nothing of: so it can make none, and what it was given counts each ask.
+//! Matching sees its holder only as `Asked`, whose one method counts each query. The type of the count is opaque to
+//! matching: so matching can create no count, and the count that it returns includes every query.
 
 ghost use Rattle.std.specs.Prelude.{◌≡◌, ℕ, ◌-◌, ◌^◌};
 ghost use Rattle.std.specs.FinSet.{contains};
@@ -13,7 +13,7 @@ use crate::cfg::Cfg;
 use crate::facts::Facts;
 use std::marker::Model;
 
-/// How often a holder of facts was asked. Only a matching that counts makes one.
+/// The number of queries to a holder of facts. Only a matching function that counts creates one.
 #[derive(Drop)]
 pub struct Asks {
     count: u128,
@@ -28,14 +28,14 @@ impl Model for Asks {
 }
 
 impl Asks {
-    /// No asks.
+    /// Returns a count of no queries.
     pub(crate) fn none() -> Asks
         ensures { result ≡ 0 }
     {
         Asks { count: 0 }
     }
 
-    /// The number of asks; the greatest `u128` stands for that many or more.
+    /// Returns the number of queries. The greatest `u128` stands for that many or more.
     pub fn count(&self) -> u128
         ensures { result ≡ self.now }
     {
@@ -43,12 +43,12 @@ impl Asks {
     }
 }
 
-/// What counts asks, or the comparisons of a search, or does not count.
+/// Counts the queries to a holder or the comparisons of a search, or counts nothing.
 pub(crate) trait Tally {
-    // The asks so far; the greatest count stands for that many or more.
+    // The queries so far. The greatest count stands for that many or more.
     ghost asks: { Self → ℕ };
 
-    /// Counts one more.
+    /// Adds one to the count.
     fn add_one(&mut self)
         ensures { Counts 1 0 (asks self.old) (asks self.new) };
 }
@@ -62,7 +62,7 @@ impl Tally for Asks {
     }
 }
 
-/// Counts nothing: it is at the greatest count always.
+/// A tally that counts nothing: it is always at the greatest count.
 #[derive(Drop)]
 pub(crate) struct Uncounted;
 
@@ -73,12 +73,12 @@ impl Tally for Uncounted {
     fn add_one(&mut self) {}
 }
 
-/// A holder of facts whose asks are counted by a `T`, and by nothing else.
+/// A holder of facts whose queries are counted by a `T`, and by nothing else.
 pub(crate) trait Asked<T: Tally> {
-    // The finite set of pairs that the holder means.
+    // The finite set of pairs that the holder represents.
     ghost meant: { Self → FactSet };
 
-    /// Whether the holder has the fact, for which it is asked once.
+    /// Makes one query and counts it. Returns whether the holder has the fact `c`.
     fn ask(&self, tally: &mut T, c: &Cfg) -> bool
         ensures answer { result ≡ contains (meant self.now) (pair_of (value_of c.now)) }
         ensures count { Counts 1 0 (T.asks tally.old) (T.asks tally.new) };

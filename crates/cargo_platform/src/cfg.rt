@@ -1,10 +1,10 @@
-//! Names, pairs and expressions, and how they are read from text.
+//! Names, pairs and expressions, and how they are parsed.
 //!
-//! A fact, as `rustc --print cfg` prints one a line, is a name (`unix`) or a key and its value
-//! (`target_os = "linux"`). An expression joins such names and pairs by `all(..)`, `any(..)` and `not(..)`, and has the
-//! literals `true` and `false`. The grammar is that of configuration predicates in the Rust reference's chapter on
+//! A fact, which `rustc --print cfg` prints on a line of its own, is a name (`unix`) or a key and its value
+//! (`target_os = "linux"`). An expression combines such names and pairs by `all(..)`, `any(..)` and `not(..)`, and has
+//! the literals `true` and `false`. The grammar is that of configuration predicates in the Rust reference's chapter on
 //! conditional compilation, as Cargo uses it for `[target.'cfg(..)'.dependencies]` (Cargo's reference, "Platform
-//! specific dependencies"); members of `all` and `any` may end with one comma.
+//! specific dependencies"). The members of `all` and `any` may end with one comma.
 
 use crate::error::ReadError;
 pub use crate::facts::{FactIndex, Facts, Listed};
@@ -13,35 +13,35 @@ use crate::{Looks, parser};
 use std::alloc::Global;
 use std::mem;
 
-/// An identifier. Of those that are read the name is one `_` or ASCII letter, and such characters or ASCII digits
-/// after it. Equality, order and hash see the name alone; printing and copies keep the raw mark.
+/// An identifier. The name of an identifier that was parsed begins with `_` or an ASCII letter, and goes on with these
+/// and ASCII digits. Equality, order and hash use the name alone. Printing and cloning keep the raw mark.
 #[derive(Debug, Drop)]
 pub struct Ident {
     /// The name, without the raw mark.
     pub name: String,
-    /// Whether it is marked as raw: written `r#name`.
+    /// Whether the identifier is marked as raw: written `r#name`.
     pub raw: bool,
 }
 
-/// A fact, or what an expression asks for: a name, or a key and its value.
+/// A fact, or what an expression tests for: a name, or a key and its value.
 #[derive(Debug, Drop)]
 pub enum Cfg {
-    /// A name alone, as `unix`.
+    /// A name without a value, such as `unix`.
     Name(Ident),
-    /// A key and the value between its quotes, as `target_os = "linux"`.
+    /// A key and the value between its quotes, such as `target_os = "linux"`.
     KeyPair(Ident, String),
 }
 
-/// An expression over facts. It is let go without recursion, wherever that happens, as is tested on two million levels.
-/// So a pattern moves nothing out of it; `into_parts` takes it apart.
+/// An expression over facts. It is dropped without recursion, whatever its depth; a test drops two million levels.
+/// Since it implements `Drop`, a pattern can't move its parts out; use `into_parts`.
 pub enum CfgExpr {
-    /// True where the expression inside is false.
+    /// True if the expression inside is false.
     Not(Box<CfgExpr>),
-    /// True where each member is; so is `all()`.
+    /// True if every member is true. `all()` is true.
     All(Vec<CfgExpr>),
-    /// True where some member is; `any()` is false.
+    /// True if some member is true. `any()` is false.
     Any(Vec<CfgExpr>),
-    /// True where the name or the pair is a fact.
+    /// True if the name or the pair is a fact.
     Value(Cfg),
     /// The literal `true`.
     True,
@@ -49,10 +49,10 @@ pub enum CfgExpr {
     False,
 }
 
-/// What stands in an expression, one level down.
+/// The parts of an expression, one level down.
 #[derive(Debug, Drop)]
 pub enum CfgExprParts {
-    /// What a negation negates.
+    /// The negated expression.
     Not(Box<CfgExpr>),
     /// The members of an `all`.
     All(Vec<CfgExpr>),
@@ -60,26 +60,26 @@ pub enum CfgExprParts {
     Any(Vec<CfgExpr>),
     /// A name or a pair.
     Value(Cfg),
-    /// The literal `true` has no parts.
+    /// The literal `true`, which has no parts.
     True,
-    /// The literal `false` has no parts.
+    /// The literal `false`, which has no parts.
     False,
 }
 
 impl Ident {
     ghost use Rattle.std.specs.Prelude.{◌≡◌, ◌↔◌, IsTrue, string_bytes};
 
-    /// The name, without the raw mark.
+    /// Returns the name, without the raw mark.
     pub fn as_str(&self) -> &str
-        // Names count as text, without marks.
+        // A name is its text, without the raw mark.
         ensures { result.now ≡ string_bytes self.now.name }
     {
         &self.name
     }
 
-    /// Whether the name equals the text. The raw mark plays no part.
+    /// Returns whether the name equals `text`. The raw mark plays no part.
     pub fn eq_text(&self, text: &str) -> bool
-        // Names count as text, without marks.
+        // A name is its text, without the raw mark.
         ensures { IsTrue result ↔ (string_bytes self.now.name ≡ text.now) }
     {
         self.as_str() == text
@@ -95,24 +95,24 @@ impl Cfg {
     ghost use Rattle.cargo_platform.specs.Print.{print_value};
     ghost use Rattle.cargo_platform.specs.Errors.{IfParse, orig_of, fault_in, span_in};
 
-    /// Reads a name, or a key, `=` and a string. Spaces may stand before, between and after them; `all`, `any`, `not`,
-    /// `true` and `false` are ordinary names here.
+    /// Parses a name, or a key, `=` and a string. Spaces may be before, between and after them. Here `all`, `any`,
+    /// `not`, `true` and `false` are ordinary names.
     ///
-    /// Any other text is refused with `ReadError::Parse` of its first fault: what can't follow the longest prefix of
-    /// its tokens that some tokens would complete. Where memory is refused the answer is `ReadError::Memory`, whatever
-    /// the text.
+    /// Returns `ReadError::Parse` for any other text, with its first fault: what can't follow the longest prefix of its
+    /// tokens that some tokens would complete. Returns `ReadError::Memory` if an allocation fails, whatever the text.
     pub fn from_str(alloc: Global, s: &str) -> Result<Cfg, ReadError>
-        // `Ok` comes only of what the text spells.
+        // `Ok` holds only what the text means under the grammar.
         ensures value { IfOk result (λ c. IsValueText s.now (value_of c)) }
-        // The error holds the text, and the fault and span of its longest completable prefix and what follows.
+        // The error holds the text, and the fault and span that its fault prefix and what follows it determine.
         ensures orig { IfParse result (λ e. orig_of e ≡ s.now) }
         ensures fault { IfParse result (λ e. IsRefused Values s.now (fault_in e)) }
         ensures span { IfParse result (λ e. IsRefusedAt Values s.now (fault_in e) (span_in e)) }
-        // Answers are well-formed.
+        // Results are well-formed.
         ensures well_formed { IfOk result (λ c. IsWellFormedValue (value_of c)) }
-        // `Parse` comes only of a text that spells nothing. So what spells something is read, if memory suffices.
+        // `Parse` is returned only for a text without a meaning. So every text that has a meaning is parsed if memory
+        // suffices.
         ensures refused { IfParse result (λ _. (c : CfgValue) → IsValueText s.now c → ⊥) }
-        // What is well-formed reads back from its print.
+        // Whatever is well-formed is parsed back, unchanged, from its printed text.
         ensures reads_back { (c : CfgValue) → IsWellFormedValue c → s.now ≡ print_value c
             → IfOk result (λ d. value_of d ≡ c) × IfParse result (λ _. ⊥) }
     {
@@ -125,8 +125,8 @@ impl Cfg {
 }
 
 impl Drop for CfgExpr {
-    /// Drops the expression, with no stack for its depth and no memory but its own.
-    // Most expressions are names and pairs: no call is made for these.
+    /// Drops the expression without recursion and without allocating.
+    // Most expressions are names and pairs: these need no call.
     #[inline(always)]
     fn drop(self) {
         match self {
@@ -144,7 +144,7 @@ impl CfgExpr {
     ghost use Rattle.cargo_platform.specs.ExpressionSizes.{node_count, node_counts};
     ghost use Rattle.cargo_platform.specs.Inside.Printing.{is_group};
 
-    /// Drops what a negation negates.
+    /// Drops the expression inside a negation.
     #[inline(never)]
     fn drop_negated(mut self) {
         'levels: loop {
@@ -159,7 +159,7 @@ impl CfgExpr {
         }
     }
 
-    /// Drops the members of a list in a loop: the last one, until none is left.
+    /// Drops the members of a list in a loop, from the last to the first.
     #[inline(never)]
     fn drop_members(mut left: Vec<CfgExpr>) {
         while let Some(last) = left.last() {
@@ -174,13 +174,13 @@ impl CfgExpr {
         left.destroy_empty();
     }
 
-    /// Drops the groups that stand within one another at the end of a list, and answers what is still to be dropped.
+    /// Drops the groups that are nested in one another at the end of a list. Returns what is still to be dropped.
     ///
-    /// One list and one expression are at hand at a time. Where the expression has members, the first of these is
-    /// taken out, the list at hand is put into its place, and these members become the list at hand. No list is let go
-    /// before it is empty.
+    /// One list and one expression are held at a time. If the expression has members, the first of these is taken out,
+    /// the held list is put into its place, and these members become the held list. No list is dropped before it is
+    /// empty.
     fn drop_to_members(self, mut left: Vec<CfgExpr>) -> Vec<CfgExpr>
-        // It is less than what was given.
+        // The result has fewer expressions than the arguments.
         ensures fewer { node_counts result.items < node_count self + node_counts left.items }
     {
         let mut e = self;
@@ -207,7 +207,7 @@ impl CfgExpr {
         }
     }
 
-    /// Whether the expression is a name, a pair or a literal.
+    /// Returns whether the expression is a name, a pair or a literal.
     fn has_no_members(&self) -> bool
         ensures { IsTrue result → is_group (tree_of self.now) ≡ false }
     {
@@ -238,40 +238,40 @@ impl CfgExpr {
     ghost use Rattle.cargo_platform.specs.Errors.{IfParse, orig_of, fault_in, span_in};
     ghost use Rattle.cargo_platform.specs.Parts.{joined};
 
-    /// Reads an expression: a name, a pair, a literal, or `all(..)`, `any(..)` or `not(..)` of expressions, to any
-    /// depth. Unmarked `all`, `any`, `not`, `true` and `false` are words of the language, and no names or keys. A raw
-    /// mark makes each an ordinary name: `r#true` is a name, and `r#all = "x"` a pair.
+    /// Parses an expression: a name, a pair, a literal, or `all(..)`, `any(..)` or `not(..)` of expressions, nested to
+    /// any depth. Unmarked, `all`, `any`, `not`, `true` and `false` are keywords, and neither names nor keys. With a
+    /// raw mark each is an ordinary name: `r#true` is a name, and `r#all = "x"` a pair.
     ///
-    /// Any other text is refused with `ReadError::Parse` of its first fault: what can't follow the longest prefix of
-    /// its tokens that some tokens would complete. Where memory is refused the answer is `ReadError::Memory`, whatever
-    /// the text.
+    /// Returns `ReadError::Parse` for any other text, with its first fault: what can't follow the longest prefix of its
+    /// tokens that some tokens would complete. Returns `ReadError::Memory` if an allocation fails, whatever the text.
     pub fn from_str(alloc: Global, s: &str) -> Result<CfgExpr, ReadError>
-        // `Ok` comes only of what the text spells.
+        // `Ok` holds only what the text means under the grammar.
         ensures tree { IfOk result (λ e. IsTreeText s.now (tree_of e)) }
-        // The error holds the text, and the fault and span of its longest completable prefix and what follows.
+        // The error holds the text, and the fault and span that its fault prefix and what follows it determine.
         ensures orig { IfParse result (λ e. orig_of e ≡ s.now) }
         ensures fault { IfParse result (λ e. IsRefused Expressions s.now (fault_in e)) }
         ensures span { IfParse result (λ e. IsRefusedAt Expressions s.now (fault_in e) (span_in e)) }
-        // Answers are well-formed.
+        // Results are well-formed.
         ensures well_formed { IfOk result (λ e. IsWellFormed (tree_of e)) }
-        // `Parse` comes only of a text that spells nothing. So what spells something is read, if memory suffices.
+        // `Parse` is returned only for a text without a meaning. So every text that has a meaning is parsed if memory
+        // suffices.
         ensures refused { IfParse result (λ _. (t : Tree) → IsTreeText s.now t → ⊥) }
-        // What is well-formed reads back from its print.
+        // Whatever is well-formed is parsed back, unchanged, from its printed text.
         ensures reads_back { (t : Tree) → IsWellFormed t → s.now ≡ print t
             → IfOk result (λ e. tree_of e ≡ t) × IfParse result (λ _. ⊥) }
     {
         CfgExpr::from_str_counted(alloc, s).0
     }
 
-    /// Reads an expression as `from_str` does, and tells how many looks the reader made at the text. A look asks for
-    /// the character at a place, or whether the text ends there, and counts one. A scan of spaces, a name or a value
-    /// counts each byte that it compares, and sixteen for a block of sixteen that are compared at once.
+    /// Parses an expression as `from_str` does, and also returns the number of looks that the reader made at the text.
+    /// A look reads the character at a position, or finds that the text ends there, and counts one. A scan of spaces, a
+    /// name or a value counts each byte that it compares, and sixteen for a block of sixteen that are compared at once.
     ///
-    /// Whatever the answer, it makes at most nine looks for each character of the text, and one. With an expression it
-    /// makes no fewer than the text has characters, and one. It looked at a refused text up to the end of the fault's
-    /// span, and where something is left after an expression, up to that: no less often than characters stand before.
+    /// Whatever the result, the reader makes at most `9n + 1` looks at a text of `n` characters. If it returns an
+    /// expression, it makes at least `n + 1`. If it rejects the text, it makes at least as many looks as there are
+    /// characters before the end of the fault's span or, if text is left after a whole expression, before that text.
     pub fn from_str_counted(alloc: Global, s: &str) -> (Result<CfgExpr, ReadError>, Looks)
-        // The first part is what `from_str` promises.
+        // The first part of the result satisfies the clauses of `from_str`.
         ensures tree { IfOk result.0 (λ e. IsTreeText s.now (tree_of e)) }
         ensures orig { IfParse result.0 (λ e. orig_of e ≡ s.now) }
         ensures fault { IfParse result.0 (λ e. IsRefused Expressions s.now (fault_in e)) }
@@ -280,13 +280,13 @@ impl CfgExpr {
         ensures refused { IfParse result.0 (λ _. (t : Tree) → IsTreeText s.now t → ⊥) }
         ensures reads_back { (t : Tree) → IsWellFormed t → s.now ≡ print t
             → IfOk result.0 (λ e. tree_of e ≡ t) × IfParse result.0 (λ _. ⊥) }
-        // A reading of `n` characters takes at most `9n + 1` looks.
+        // Parsing `n` characters takes at most `9n + 1` looks.
         ensures at_most { result.1 ≤ 12 * (length (chars s.now) + 1) }
         ensures at_most_nine { result.1 ≤ 9 * length (chars s.now) + 1 }
-        // With a tree it takes at least `n + 1`.
+        // Parsing `n` characters takes at least `n + 1` looks if it returns an expression.
         ensures with_tree { OnOk result.0 (length (chars s.now) + 1 ≤ result.1) }
-        // Of a refused text it takes no fewer than characters stand before its span's end, or before what is left after
-        // an expression.
+        // Rejecting a text takes at least as many looks as there are characters before the end of the fault's span, or
+        // before what is left after an expression.
         ensures at_least { IfParse result.0
             (λ e. IfSome (span_in e) (λ span. IsLookedTo s.now (looked_to (fault_in e) span) result.1)) }
     {
@@ -300,11 +300,11 @@ impl CfgExpr {
         }
     }
 
-    /// Takes the expression apart, one level down: its parts are handed out as they are. Nothing is allocated, and
-    /// nothing refused.
+    /// Takes the expression apart, one level down, and returns its parts unchanged. It allocates nothing and can't
+    /// fail.
     #[inline(always)]
     pub fn into_parts(self) -> CfgExprParts
-        // The parts make the expression again.
+        // The parts can be joined to the expression again.
         ensures { joined result ≡ self }
     {
         match self {

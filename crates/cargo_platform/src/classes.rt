@@ -1,4 +1,4 @@
-//! The classes of the bytes that names are made of.
+//! Which bytes names consist of.
 
 ghost use Rattle.std.specs.Prelude.{◌≡◌, ◌≤◌, ◌+◌, length};
 ghost use Rattle.cargo_platform.specs.Chars.{is_identifier_start, is_identifier_rest};
@@ -6,14 +6,14 @@ ghost use Rattle.cargo_platform.specs.Inside.Looking.{IsRun};
 
 use std::simd::prelude::*;
 
-/// How many bytes are compared at once.
+/// The number of bytes that are compared at once.
 pub(crate) const LANES: usize = 16;
 
 const Y: bool = true;
 
 const N: bool = false;
 
-/// Whether each byte is `_`, an ASCII letter or an ASCII digit: a row for each sixteen bytes.
+/// Whether each byte is `_`, an ASCII letter or an ASCII digit, in rows of sixteen bytes.
 const IDENTIFIER_REST: [bool; 256] = [
     // 0x00
     N, N, N, N, N, N, N, N, N, N, N, N, N, N, N, N,
@@ -49,7 +49,7 @@ const IDENTIFIER_REST: [bool; 256] = [
     N, N, N, N, N, N, N, N, N, N, N, N, N, N, N, N,
 ];
 
-/// Whether an identifier may begin with the character.
+/// Returns whether an identifier may begin with the character.
 #[inline(always)]
 pub(crate) fn begins_identifier(c: char) -> bool
     ensures { result ≡ is_identifier_start c }
@@ -57,7 +57,7 @@ pub(crate) fn begins_identifier(c: char) -> bool
     c == '_' || c.is_ascii_alphabetic()
 }
 
-/// Whether an identifier may go on with the byte.
+/// Returns whether an identifier may contain the byte after its first character.
 #[inline(always)]
 pub(crate) fn continues_identifier(byte: u8) -> bool
     ensures { result ≡ is_identifier_rest byte }
@@ -65,7 +65,7 @@ pub(crate) fn continues_identifier(byte: u8) -> bool
     IDENTIFIER_REST[byte as usize]
 }
 
-/// How many of the next `LANES` bytes an identifier may go on with, before the first that it may not.
+/// Returns how many of the next `LANES` bytes continue an identifier, up to the first that does not.
 #[inline(always)]
 pub(crate) fn identifier_run(bytes: &[u8], at: usize) -> usize
     requires { at + LANES ≤ length bytes.now }

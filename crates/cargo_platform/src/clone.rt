@@ -1,4 +1,4 @@
-//! Copies of names, pairs, expressions and platforms, with their raw marks.
+//! Clones of names, pairs, expressions and platforms, with their raw marks.
 
 ghost use Rattle.std.specs.Prelude.{◌≡◌, ◌≤◌, ◌+◌, ◌*◌, ◌++◌, map, IfOk, IfSome, OnOk, MatchOption};
 ghost use Rattle.cargo_platform.specs.Trees.{Tree, name_of, value_of, tree_of, condition_of};
@@ -13,10 +13,10 @@ use crate::parser::{Listing, close_list, negation, push_member};
 use std::alloc::{AllocError, Global};
 
 impl Ident {
-    /// A copy with the same name and the same raw mark. It refuses only where memory is refused.
+    /// Returns a copy with the same name and the same raw mark. Fails only if an allocation fails.
     #[inline(always)]
     pub fn clone(&self, alloc: Global) -> Result<Ident, AllocError>
-        // A copy stands for the same, marks too.
+        // A clone means the same as the original, and has the same raw marks.
         ensures { IfOk result (λ copy. name_of copy ≡ name_of self.now) }
     {
         Ok(Ident {
@@ -27,10 +27,10 @@ impl Ident {
 }
 
 impl Cfg {
-    /// A copy with the same name or key, raw mark and value. It refuses only where memory is refused.
+    /// Returns a copy with the same name or key, raw mark and value. Fails only if an allocation fails.
     #[inline(always)]
     pub fn clone(&self, alloc: Global) -> Result<Cfg, AllocError>
-        // A copy stands for the same, marks too.
+        // A clone means the same as the original, and has the same raw marks.
         ensures { IfOk result (λ copy. value_of copy ≡ value_of self.now) }
     {
         match self {
@@ -44,17 +44,17 @@ impl Cfg {
 }
 
 impl CfgExpr {
-    /// A copy of the whole tree, with its raw marks. It refuses only where memory is refused.
+    /// Returns a copy of the whole tree, with its raw marks. Fails only if an allocation fails.
     #[inline(always)]
     pub fn clone(&self, alloc: Global) -> Result<CfgExpr, AllocError>
-        // A copy stands for the same, marks too.
+        // A clone means the same as the original, and has the same raw marks.
         ensures { IfOk result (λ copy. tree_of copy ≡ tree_of self.now) }
     {
         copy_tree(alloc, self)
     }
 }
 
-/// A copy of the whole tree.
+/// Copies the whole tree.
 fn copy_tree(alloc: Global, e: &CfgExpr) -> Result<CfgExpr, AllocError>
     ensures { IfOk result (λ copy. tree_of copy ≡ tree_of e.now) }
 {
@@ -69,7 +69,7 @@ fn copy_tree(alloc: Global, e: &CfgExpr) -> Result<CfgExpr, AllocError>
     }
 }
 
-/// What is next: an expression that is to be copied, or a copy that is made.
+/// The next thing to handle: an expression to copy, or a finished copy.
 #[derive(Drop)]
 enum Next<'a> {
     Expression(&'a CfgExpr),
@@ -80,7 +80,7 @@ enum Next<'a> {
 #[derive(Drop)]
 enum CopiedGroup<'a> {
     Not,
-    /// Its word, the copies that are made, and the members after the one that is being copied.
+    /// The keyword, the copies of members that are finished, and the members after the one that is being copied.
     List(Listing, Vec<CfgExpr>, &'a [CfgExpr]),
 }
 
@@ -91,7 +91,7 @@ struct CopiedGroups<'a> {
 }
 
 impl<'a> CopiedGroups<'a> {
-    /// No groups.
+    /// Returns an empty list of groups.
     fn new(alloc: Global) -> CopiedGroups<'a>
         ensures whole { (e : Tree) → whole result e ≡ e }
     {
@@ -100,7 +100,7 @@ impl<'a> CopiedGroups<'a> {
         }
     }
 
-    /// Opens a group inside the others. Where memory is refused, it is dropped.
+    /// Adds a group inside the others. Drops it if the allocation fails.
     fn push(&mut self, group: CopiedGroup<'a>) -> Result<(), AllocError>
         ensures whole { OnOk result ((e : Tree) → whole self.new e ≡ whole self.old (around group.entry e)) }
         ensures work { OnOk result (work self.new ≡ work self.old + left_in group.entry) }
@@ -109,7 +109,7 @@ impl<'a> CopiedGroups<'a> {
         Ok(())
     }
 
-    /// Takes the innermost group.
+    /// Removes the innermost group and returns it.
     fn pop(&mut self) -> Option<CopiedGroup<'a>>
         ensures whole { MatchOption result
             ((e : Tree) → whole self.old e ≡ e)
@@ -120,7 +120,7 @@ impl<'a> CopiedGroups<'a> {
     }
 }
 
-/// Opens the groups that an expression begins with, and copies the first that stands inside them and has none inside.
+/// Opens the groups that an expression begins with, and copies the first expression inside them that is not a group.
 #[inline(always)]
 fn copy_first<'a>(
     alloc: Global,
@@ -157,8 +157,8 @@ fn copy_first<'a>(
     }
 }
 
-/// Puts a copy into the groups around it, from the innermost on, up to one with members that are still to be copied.
-/// Answers the first of these, or the whole.
+/// Adds a copy to the groups around it, from the innermost outwards, up to a group whose members are not all copied.
+/// Returns the next member of that group, or the copy of the whole expression.
 #[inline(always)]
 fn put_into_groups<'a>(
     alloc: Global,
@@ -188,8 +188,8 @@ fn put_into_groups<'a>(
     }
 }
 
-/// Copies members of a list, up to one that is no name or pair, for which the list stays open. Answers that one, or the
-/// list.
+/// Copies members of a list, up to one that is neither a name nor a pair, and keeps the list open for that one. Returns
+/// that member, or the list if there is none.
 #[inline(always)]
 fn copy_members<'a>(
     alloc: Global,
@@ -219,7 +219,7 @@ fn copy_members<'a>(
 }
 
 // Most members are names and pairs. They are copied in a row, with no group pushed and popped between them.
-/// Copies the names and pairs that members begin with, and answers the members after these.
+/// Copies the names and pairs at the beginning of the members, and returns the members after them.
 fn copy_values<'a>(
     alloc: Global,
     members: &'a [CfgExpr],
@@ -242,10 +242,10 @@ fn copy_values<'a>(
 }
 
 impl Platform {
-    /// A copy of the same platform, with the raw marks of its expression. It refuses only where memory is refused.
+    /// Returns a copy of the platform, with the raw marks of its expression. Fails only if an allocation fails.
     #[inline(always)]
     pub fn clone(&self, alloc: Global) -> Result<Platform, AllocError>
-        // A copy stands for the same, marks too.
+        // A clone means the same as the original, and has the same raw marks.
         ensures { IfOk result (λ copy. condition_of copy ≡ condition_of self.now) }
     {
         match self {

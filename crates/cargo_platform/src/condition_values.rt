@@ -1,4 +1,4 @@
-//! The names and pairs that a condition asks for, from left to right.
+//! The names and pairs in a condition, from left to right.
 
 ghost use Rattle.std.specs.Prelude.{◌≡◌, ◌+◌, true, IfOk, map};
 ghost use Rattle.cargo_platform.specs.Trees.{value_of, tree_of, trees_of, condition_of};
@@ -11,16 +11,16 @@ use crate::cfg::{Cfg, CfgExpr};
 use std::alloc::{AllocError, Global};
 use std::slice;
 
-/// What one walk of a condition meets.
+/// The names and pairs of a condition, and how deeply it is nested.
 #[derive(Drop)]
 pub struct ValuesWithLevels<'a> {
     /// The names and pairs, from left to right.
     pub values: Vec<&'a Cfg>,
-    /// How many members, each with others after it in its group, stand in one another at most.
+    /// The greatest number of members, each nested in the next and each with others after it in its group.
     pub levels: usize,
 }
 
-/// The names and pairs of a condition, from left to right, and how deep it is. The name of a target has none.
+/// Returns the names and pairs of a condition, from left to right, and how deeply it is nested. A target name has none.
 pub fn values_with_levels<'a>(
     alloc: Global,
     platform: &'a Platform,
@@ -38,7 +38,7 @@ pub fn values_with_levels<'a>(
     }
 }
 
-/// The names and pairs of a condition, from left to right. The name of a target has none.
+/// Returns the names and pairs of a condition, from left to right. A target name has none.
 pub fn values_of<'a>(alloc: Global, platform: &'a Platform) -> Result<Vec<&'a Cfg>, AllocError>
     // The names and pairs are those of the condition, from left to right.
     ensures { IfOk result (λ found. map (λ c. value_of c.now) found.items
@@ -48,7 +48,7 @@ pub fn values_of<'a>(alloc: Global, platform: &'a Platform) -> Result<Vec<&'a Cf
     Ok(met.values)
 }
 
-/// The members of a group; that of a negation is what it negates.
+/// Returns the members of a group. The only member of a negation is the negated expression.
 fn members_of(e: &CfgExpr) -> &[CfgExpr]
     ensures values { is_group (tree_of e.now) ≡ true
         → values (tree_of e.now) ≡ members_values (trees_of (map tree_of result.now)) }
@@ -61,7 +61,7 @@ fn members_of(e: &CfgExpr) -> &[CfgExpr]
     }
 }
 
-/// One more where members are left.
+/// Returns one more level if members are left.
 fn with_left(levels: usize, left: &[CfgExpr]) -> usize {
     if left.is_empty() {
         levels
@@ -70,13 +70,14 @@ fn with_left(levels: usize, left: &[CfgExpr]) -> usize {
     }
 }
 
-/// The names and pairs of an expression, from left to right, and how deep it is.
+/// Returns the names and pairs of an expression, from left to right, and how deeply it is nested.
 fn walk<'a>(alloc: Global, e: &'a CfgExpr) -> Result<ValuesWithLevels<'a>, AllocError>
     ensures { IfOk result (λ met. map (λ c. value_of c.now) met.values.items ≡ values (tree_of e.now)) }
 {
     let mut found = Vec::new(alloc);
     let mut levels = 0;
-    // What is left of the group that was opened last, and of those around it, each with the levels above it.
+    // The members that are left of the group that was opened last, and of the groups around it, each with the levels
+    // above it.
     let mut members = slice::from_ref(e);
     let mut above = 0;
     let mut around: Vec<(&'a [CfgExpr], usize)> = Vec::new(alloc);

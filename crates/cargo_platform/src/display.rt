@@ -1,5 +1,5 @@
-//! How conditions and the errors about them print. Nothing is allocated, and plain `{}` is what is promised: a width,
-//! a fill or an alignment is not.
+//! How conditions and the errors about them are printed. Printing allocates nothing. The contracts are about plain
+//! `{}`, not about a width, a fill or an alignment.
 
 use crate::{Cfg, CfgExpr, Ident, Platform};
 use std::fmt::Display;
@@ -10,7 +10,7 @@ impl fmt::Display for Ident {
     ghost use Rattle.cargo_platform.specs.Trees.{name_of};
     ghost use Rattle.cargo_platform.specs.Print.{print_name};
 
-    // It prints exactly the bytes of the definition.
+    // Prints exactly the bytes that the definition gives.
     ghost output = { λ i. Some (print_name (name_of i)) };
 
     fn fmt<W: fmt::Write>(&self, f: &mut fmt::Formatter<W>) -> fmt::Result {
@@ -26,7 +26,7 @@ impl fmt::Display for Cfg {
     ghost use Rattle.cargo_platform.specs.Trees.{value_of};
     ghost use Rattle.cargo_platform.specs.Print.{print_value};
 
-    // It prints exactly the bytes of the definition.
+    // Prints exactly the bytes that the definition gives.
     ghost output = { λ c. Some (print_value (value_of c)) };
 
     fn fmt<W: fmt::Write>(&self, f: &mut fmt::Formatter<W>) -> fmt::Result {
@@ -47,7 +47,7 @@ impl fmt::Display for CfgExpr {
     ghost use Rattle.cargo_platform.specs.Trees.{tree_of};
     ghost use Rattle.cargo_platform.specs.Print.{print};
 
-    // It prints exactly the bytes of the definition.
+    // Prints exactly the bytes that the definition gives.
     ghost output = { λ e. Some (print (tree_of e)) };
 
     fn fmt<W: fmt::Write>(&self, f: &mut fmt::Formatter<W>) -> fmt::Result {
@@ -60,10 +60,10 @@ impl fmt::Debug for CfgExpr {
     ghost use Rattle.cargo_platform.specs.Trees.{tree_of};
     ghost use Rattle.cargo_platform.specs.Print.{print};
 
-    // It prints exactly the bytes of the definition.
+    // Prints exactly the bytes that the definition gives.
     ghost debug_output = { λ e. Some (print (tree_of e)) };
 
-    // As it prints, since the derived text takes stack for each level.
+    // Prints as `Display` does, since a derived implementation needs stack for each level.
     fn fmt<W: fmt::Write>(&self, f: &mut fmt::Formatter<W>) -> fmt::Result {
         write_expression(self, f)
     }
@@ -80,8 +80,9 @@ ghost use Rattle.cargo_platform.specs.Inside.Printing.{closed, HasWrittenBut};
 ghost use Rattle.cargo_platform.specs.ExpressionSizes.{node_count, node_counts};
 ghost use Rattle.cargo_platform.specs.Warnings.{values, members_values};
 
-/// An expression, with the expressions inside it. What recurses are the groups that others follow: the last members are
-/// gone down in loops, and what writes has a frame of its own, so that a level of the recursion takes few bytes.
+/// Writes an expression with all that is nested in it. The recursion is over groups that others follow. Last members
+/// are followed in loops, and what writes is a function of its own, so that a level of the recursion needs few bytes of
+/// stack.
 #[cycle(print)]
 fn write_expression<W: fmt::Write>(e: &CfgExpr, f: &mut fmt::Formatter<W>) -> fmt::Result
     ensures { WritesOnOk W.write_str_gives f.old result (print (tree_of e.now)) f.new }
@@ -97,7 +98,8 @@ fn write_expression<W: fmt::Write>(e: &CfgExpr, f: &mut fmt::Formatter<W>) -> fm
     write_ends(e, f)
 }
 
-/// Members up to the first group that others follow, going down the last ones. Leaves that group and what follows it.
+/// Writes members up to the first group that others follow, following the last ones inwards. Leaves that group and the
+/// members after it in `left`.
 #[inline(never)]
 fn write_to_group<'a, W: fmt::Write>(
     left: &mut &'a [CfgExpr],
@@ -128,7 +130,7 @@ fn write_to_group<'a, W: fmt::Write>(
     }
 }
 
-/// Whether the expression is a group that others follow.
+/// Returns whether the expression is a group that others follow.
 #[inline(always)]
 fn is_followed_group(first: &CfgExpr, others: &[CfgExpr]) -> bool
     ensures { result ≡ (is_group (tree_of first.now) && not (length others.now == 0)) }
@@ -136,7 +138,8 @@ fn is_followed_group(first: &CfgExpr, others: &[CfgExpr]) -> bool
     members_of(first).is_some() && !others.is_empty()
 }
 
-/// The members of a group; that of a negation is what it negates.
+/// Returns the members of a group, or `None` for any other expression. The only member of a negation is the negated
+/// expression.
 #[inline(always)]
 pub(crate) fn members_of(e: &CfgExpr) -> Option<&[CfgExpr]>
     ensures group { MatchOption result (is_group (tree_of e.now) ≡ false) (λ _. is_group (tree_of e.now) ≡ true) }
@@ -157,7 +160,7 @@ pub(crate) fn members_of(e: &CfgExpr) -> Option<&[CfgExpr]>
     }
 }
 
-/// What stands before the members of a group, or a whole expression that is none.
+/// Writes what is before the members of a group, or a whole expression that is no group.
 #[inline(always)]
 fn write_word<W: fmt::Write>(e: &CfgExpr, f: &mut fmt::Formatter<W>) -> fmt::Result
     ensures { WritesOnOk W.write_str_gives f.old result (word (tree_of e.now)) f.new }
@@ -172,7 +175,7 @@ fn write_word<W: fmt::Write>(e: &CfgExpr, f: &mut fmt::Formatter<W>) -> fmt::Res
     }
 }
 
-/// What stands after a member, before the others.
+/// Writes what is between a member and the others after it.
 #[inline(always)]
 fn write_between<W: fmt::Write>(others: &[CfgExpr], f: &mut fmt::Formatter<W>) -> fmt::Result
     ensures { WritesOnOk W.write_str_gives f.old result (between others.now) f.new }
@@ -184,7 +187,7 @@ fn write_between<W: fmt::Write>(others: &[CfgExpr], f: &mut fmt::Formatter<W>) -
     }
 }
 
-/// Writes what stands between two members.
+/// Writes the comma between two members.
 #[inline(never)]
 fn write_comma<W: fmt::Write>(f: &mut fmt::Formatter<W>) -> fmt::Result
     ensures { WritesOnOk W.write_str_gives f.old result (codes ", ") f.new }
@@ -192,7 +195,7 @@ fn write_comma<W: fmt::Write>(f: &mut fmt::Formatter<W>) -> fmt::Result
     f.write_str(", ")
 }
 
-/// The parentheses that end an expression: its own, and those of its last members.
+/// Writes the parentheses that close an expression: its own, and those of its last members.
 #[inline(never)]
 fn write_ends<W: fmt::Write>(e: &CfgExpr, f: &mut fmt::Formatter<W>) -> fmt::Result
     ensures { WritesOnOk W.write_str_gives f.old result (closed (ending (tree_of e.now))) f.new }
@@ -213,7 +216,7 @@ impl fmt::Display for Platform {
     ghost use Rattle.cargo_platform.specs.Trees.{condition_of};
     ghost use Rattle.cargo_platform.specs.Print.{print_condition};
 
-    // It prints exactly the bytes of the definition.
+    // Prints exactly the bytes that the definition gives.
     ghost output = { λ p. Some (print_condition (condition_of p)) };
 
     fn fmt<W: fmt::Write>(&self, f: &mut fmt::Formatter<W>) -> fmt::Result {

@@ -1,4 +1,4 @@
-//! Why a text is refused.
+//! Why a text is rejected.
 
 ghost use Rattle.std.specs.Prelude.{◌≡◌, IfOk, None};
 
@@ -6,53 +6,54 @@ use std::alloc::{AllocError, Global};
 use std::fmt;
 use std::ops::Range;
 
-/// What is wrong with a text. A text is read up to its first fault: the longest prefix of its tokens that some tokens
-/// would complete, and what follows that prefix.
+/// The fault of a text. The parser stops at the first fault: it is given by the longest prefix of the text's tokens
+/// that some tokens would complete, and by what follows that prefix.
 #[derive(Debug, Drop)]
 pub enum ParseErrorKind {
     /// A `"` follows that no second `"` closes.
     UnterminatedString,
-    /// This character follows, and begins no token.
+    /// This character follows, and no token begins with it.
     UnexpectedChar(char),
-    /// A token of the class `found` follows, where one of the class `expected` could have.
+    /// A token of the class `found` follows where one of the class `expected` is allowed.
     UnexpectedToken {
-        /// What could have followed.
+        /// The class of a token that is allowed there.
         expected: &'static str,
-        /// What follows.
+        /// The class of the token that is there.
         found: &'static str,
     },
-    /// The text ends where this was expected; or it ends with an empty `r#`, after which an identifier was expected.
+    /// The text ends where this is expected, or it ends with `r#` where an identifier is expected.
     IncompleteExpr(&'static str),
     /// The prefix is a whole value or expression, and this text is left after it.
     UnterminatedExpression(String),
-    /// The text is no target name, which this message explains.
+    /// The text is not a target name, for the reason in this message.
     InvalidTarget(String),
 }
 
-/// A text that is refused, and why.
+/// The error for a rejected text.
 #[derive(Drop)]
 pub struct ParseError {
-    /// Why it is refused.
+    /// Why it is rejected.
     kind: ParseErrorKind,
-    /// What is refused. It lies in a box so that a reader's answer is no larger than an expression.
+    /// The rejected text. It is in a box so that a parser's result is no larger than an expression.
     refused: Box<Refused>,
 }
 
-/// What is refused.
+/// The rejected text and the place of the fault.
 #[derive(Drop)]
 struct Refused {
     /// The whole text.
     orig: String,
-    /// Where in the text the fault lies, in bytes; an error that is made by hand names no place.
+    /// The bytes of the text at which the fault lies. An error that `new` made has no span.
     span: Option<Range<usize>>,
 }
 
 impl ParseError {
     ghost use Rattle.cargo_platform.specs.Errors.{fault_in, fault_meant, orig_of, span_in};
 
-    /// The error of a text, of which it keeps a copy, with no span. Without memory for the copy the kind is dropped.
+    /// Creates an error for `orig`, of which it keeps a copy, without a span. If the copy can't be allocated, it drops
+    /// `kind`.
     pub fn new(alloc: Global, orig: &str, kind: ParseErrorKind) -> Result<ParseError, AllocError>
-        // It holds what was given, and no span.
+        // It holds the arguments, and no span.
         ensures of { IfOk result (λ e. orig_of e ≡ orig.now) }
         ensures why { IfOk result (λ e. fault_in e ≡ fault_meant kind) }
         ensures nowhere { IfOk result (λ e. span_in e ≡ None) }
@@ -60,7 +61,7 @@ impl ParseError {
         ParseError::with_span(alloc, orig, kind, None)
     }
 
-    /// The same, with the span of the fault.
+    /// Creates the same error with the span of the fault.
     pub(crate) fn with_span(
         alloc: Global,
         orig: &str,
@@ -76,28 +77,28 @@ impl ParseError {
         Ok(ParseError { kind, refused })
     }
 
-    /// What is wrong with the text.
+    /// Returns the fault of the text.
     pub fn kind(&self) -> &ParseErrorKind
-        // What the error holds.
+        // Returns what the error holds.
         ensures { fault_meant result.now ≡ fault_in self.now }
     {
         &self.kind
     }
 
-    /// The whole text that was refused.
+    /// Returns the whole text that was rejected.
     pub fn orig(&self) -> &str
-        // What the error holds.
+        // Returns what the error holds.
         ensures { result.now ≡ orig_of self.now }
     {
         &self.refused.orig
     }
 
-    /// Where the fault lies in `orig`, in bytes: the token that does not fit; what is left after a whole value or
-    /// expression; the character that begins no token, or that no target name may hold; an open string from its quote
-    /// on; and the empty span at the end where the text ends too early. An error of a reader has a span, and one that
-    /// `new` made has none.
+    /// Returns the bytes of `orig` at which the fault lies: the token that does not fit; what is left after a whole
+    /// value or expression; the character that begins no token, or that no target name may contain; an unterminated
+    /// string from its quote on; or the empty range at the end if the text ends too early. An error of a parser has a
+    /// span, and one that `new` made has none.
     pub fn span(&self) -> Option<Range<usize>>
-        // What the error holds.
+        // Returns what the error holds.
         ensures { result ≡ span_in self.now }
     {
         match &self.refused.span {
@@ -107,12 +108,12 @@ impl ParseError {
     }
 }
 
-/// Why a reader answers nothing.
+/// Why parsing failed.
 #[derive(Debug, Drop)]
 pub enum ReadError {
-    /// The text is refused.
+    /// The text is rejected.
     Parse(ParseError),
-    /// Memory was refused.
+    /// An allocation failed.
     Memory(AllocError),
 }
 
@@ -121,7 +122,7 @@ impl fmt::Display for ParseErrorKind {
     ghost use Rattle.cargo_platform.specs.Print.{print_fault};
     ghost use Rattle.cargo_platform.specs.Errors.{fault_meant};
 
-    // It prints exactly the bytes of the definition.
+    // Prints exactly the bytes that the definition gives.
     ghost output = { λ k. Some (print_fault (fault_meant k)) };
 
     fn fmt<W: fmt::Write>(&self, f: &mut fmt::Formatter<W>) -> fmt::Result {
@@ -160,7 +161,7 @@ impl fmt::Display for ParseError {
     ghost use Rattle.cargo_platform.specs.Print.{print_error};
     ghost use Rattle.cargo_platform.specs.Errors.{fault_in, orig_of};
 
-    // It prints exactly the bytes of the definition.
+    // Prints exactly the bytes that the definition gives.
     ghost output = { λ e. Some (print_error (orig_of e) (fault_in e)) };
 
     fn fmt<W: fmt::Write>(&self, f: &mut fmt::Formatter<W>) -> fmt::Result {
@@ -175,7 +176,7 @@ impl std::error::Error for ParseError {}
 impl fmt::Display for ReadError {
     ghost use Rattle.cargo_platform.specs.Errors.{print_refusal};
 
-    // But for `Memory`, it prints exactly the bytes of the definition.
+    // Prints exactly the bytes that the definition gives, except for `Memory`.
     ghost output = { λ e. print_refusal e };
 
     fn fmt<W: fmt::Write>(&self, f: &mut fmt::Formatter<W>) -> fmt::Result {

@@ -1,4 +1,4 @@
-//! The facts of a target, read from a text.
+//! Parses the facts of a target from a text.
 
 ghost use Rattle.std.specs.Prelude.{◌≡◌, ◌≢◌, ◌==◌, ◌<◌, ◌+◌, ℕ, List, [], map, length, IfOk, MatchOption};
 ghost use Rattle.std.specs.List.{AllByRecursion, slice_split};
@@ -20,28 +20,29 @@ use std::alloc::{AllocError, Global};
 use std::fmt;
 use std::ops::Range;
 
-/// Why a text of facts is refused.
+/// Why a text of facts is rejected.
 #[derive(Debug, Drop)]
 pub enum FactsError {
-    /// This line spells no fact.
+    /// This line is not a fact.
     Line {
         /// The number of the line, counted from 1.
         number: usize,
-        /// What is wrong with it.
+        /// The fault of the line.
         error: ParseError,
     },
-    /// Memory was refused.
+    /// An allocation failed.
     Memory(AllocError),
 }
 
-/// The text without the newline that ends its last line. Its lines are the parts between the newlines that are left.
+/// Returns the text without the newline that ends its last line. Its lines are the parts between the remaining
+/// newlines.
 fn without_last_end(text: &str) -> &str
     ensures { text.now ≢ [] → slice_split (λ b. b == 10) result.now ≡ lines_of text.now }
 {
     text.strip_suffix('\n').unwrap_or(text)
 }
 
-/// Reads the line of this number as a fact.
+/// Parses the line with this number as a fact.
 fn read_line(alloc: Global, number: usize, line: &str) -> Result<Cfg, FactsError>
     ensures fact { IfOk result (λ c. IsValueText line.now (value_of c)) }
     ensures well_formed { IfOk result (λ c. IsWellFormedValue (value_of c)) }
@@ -58,22 +59,24 @@ fn read_line(alloc: Global, number: usize, line: &str) -> Result<Cfg, FactsError
     }
 }
 
-/// Reads a list of facts, one a line, as `rustc --print cfg` prints them: line for line what `Cfg::from_str` reads.
+/// Parses a list of facts, one on each line, as `rustc --print cfg` prints them. Each line is parsed as by
+/// `Cfg::from_str`.
 ///
-/// A line ends with `\n` and with nothing else; after the last `\n` a line stands only where a character does. So the
-/// empty text has no facts, and an empty line, or one that ends with `\r`, is refused. A text with a line that spells
-/// no fact is refused with `FactsError::Line` of the first such line. Where memory is refused the answer is
-/// `FactsError::Memory`, whatever the text.
+/// A line ends with `\n` and with nothing else. After the last `\n` there is a line only if a character follows. So the
+/// empty text has no facts, and a line that is empty or ends with `\r` is rejected.
+///
+/// Returns `FactsError::Line` for the first line that is not a fact, or `FactsError::Memory` if an allocation fails,
+/// whatever the text.
 pub fn read_facts(alloc: Global, text: &str) -> Result<Vec<Cfg>, FactsError>
-    // Answers are what the lines spell, one fact a line.
+    // The result has exactly the facts that the lines mean, one from each line.
     ensures facts { IfOk result (λ v. SpellFacts (lines_of text.now) (map value_of v.items)) }
-    // The error is of the first line that spells none, with its fault and span.
+    // The error is that of the first line that is not a fact, with its fault and span.
     ensures refused { IfLine result (λ n e. IsFirstNoFact (lines_of text.now) n) }
     ensures orig { IfLine result (λ n e. orig_of e ≡ line_at (lines_of text.now) n) }
     ensures fault { IfLine result (λ n e. IsRefused Values (line_at (lines_of text.now) n) (fault_in e)) }
     ensures span { IfLine result
         (λ n e. IsRefusedAt Values (line_at (lines_of text.now) n) (fault_in e) (span_in e)) }
-    // Answers are well-formed. Prints of well-formed facts, one a line, read back.
+    // Results are well-formed. Well-formed facts that are printed one on each line are parsed back.
     ensures well_formed { IfOk result (λ v. AllByRecursion IsWellFormedValue (map value_of v.items)) }
     ensures reads_back { (cs : List CfgValue) → AllByRecursion IsWellFormedValue cs
         → AllByRecursion IsUnbroken (map print_value cs) → text.now ≡ ended (map print_value cs)
@@ -93,10 +96,10 @@ pub fn read_facts(alloc: Global, text: &str) -> Result<Vec<Cfg>, FactsError>
 }
 
 impl FactsError {
-    /// Where the fault lies in the text of facts, in bytes of the whole text: in the line of its number. `None` with a
-    /// text that has no such line there, and where memory was refused.
+    /// Returns the bytes of the whole text of facts at which the fault lies. Returns `None` if the error is about
+    /// memory, or if `text` does not have this line at this number.
     pub fn span_in(&self, text: &str) -> Option<Range<usize>>
-        // Where the fault lies in the whole text.
+        // The fault's place in the whole text.
         ensures { IsSpanInFacts text.now self.now result }
     {
         let FactsError::Line { number, error } = self else {
@@ -108,7 +111,7 @@ impl FactsError {
     }
 }
 
-/// How many bytes into the text the line of this number begins, where it is this line.
+/// Returns the byte at which the line with this number begins, if it is this line.
 fn line_place(text: &str, number: usize, line: &str) -> Option<usize>
     ensures { MatchOption result
         ((place : ℕ) → BeginsLine text.now number line.now place → ⊥)
@@ -124,7 +127,7 @@ fn line_place(text: &str, number: usize, line: &str) -> Option<usize>
     }
 }
 
-/// The text after so many lines and their ends, where it has so many.
+/// Returns the text after the first `many` lines and their ends, if it has so many.
 fn behind_lines(text: &str, many: usize) -> Option<&str>
     ensures { MatchOption result (length (lines_of text.now) < many + 1) (λ rest. IsBehind text.now many rest.now) }
 {
@@ -138,7 +141,7 @@ fn behind_lines(text: &str, many: usize) -> Option<&str>
     Some(rest)
 }
 
-/// The first line of a text.
+/// Returns the first line of a text.
 fn first_line(text: &str) -> Option<&str>
     ensures { MatchOption result (text.now ≡ []) (λ line. IsFirstLine text.now line.now) }
 {
@@ -154,7 +157,7 @@ fn first_line(text: &str) -> Option<&str>
 impl fmt::Display for FactsError {
     ghost use Rattle.cargo_platform.specs.FactLines.{print_facts_error};
 
-    // But for `Memory`, it prints exactly the bytes of the definition.
+    // Prints exactly the bytes that the definition gives, except for `Memory`.
     ghost output = { λ e. print_facts_error e };
 
     fn fmt<W: fmt::Write>(&self, f: &mut fmt::Formatter<W>) -> fmt::Result {

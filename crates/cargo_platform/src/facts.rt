@@ -22,17 +22,18 @@ use std::alloc::{AllocError, Global};
 use std::cmp::Ordering;
 use std::ops::ControlFlow;
 
-/// A set of facts, however it is kept.
+/// A set of facts, in any representation.
 pub trait Facts {
-    // The finite set of pairs that the holder means.
+    // The finite set of pairs that the holder represents.
     ghost meant: { Self → FactSet };
 
-    /// Whether the pair of `c`, its name or its key and value without the raw mark, is in the set that is meant.
+    /// Returns whether the pair of `c`, which is its name or its key and value without the raw mark, is in this set.
     fn holds(&self, c: &Cfg) -> bool
         ensures { result ≡ contains (meant self.now) (pair_of (value_of c.now)) };
 }
 
-/// A list of facts, which means the set of its members' pairs. Order, repeats and raw marks play no part.
+/// A list of facts, which represents the set of its members' pairs. Their order, repetitions and raw marks play no
+/// part.
 #[derive(Drop)]
 pub struct Listed<'a>(pub &'a [Cfg]);
 
@@ -44,7 +45,7 @@ impl<'a> Facts for Listed<'a> {
     }
 }
 
-/// Whether a list has an equal fact.
+/// Returns whether a list contains an equal fact.
 #[inline(always)]
 fn is_listed(facts: &[Cfg], c: &Cfg) -> bool
     ensures { result ≡ list_any (λ fact. eq_by_cmp value_cmp (value_of fact) (value_of c.now)) facts.now }
@@ -57,7 +58,7 @@ fn is_listed(facts: &[Cfg], c: &Cfg) -> bool
     false
 }
 
-/// Whether two facts are equal. Mostly the lengths of their names or keys tell that they are not.
+/// Returns whether two facts are equal. Mostly the lengths of their names or keys show that they differ.
 #[inline(always)]
 #[tactic(auto, using(crate::proofs::LengthOrder::unequal_names))]
 fn is_same(fact: &Cfg, c: &Cfg) -> bool
@@ -66,7 +67,7 @@ fn is_same(fact: &Cfg, c: &Cfg) -> bool
     name_length(fact) == name_length(c) && are_equal(fact, c)
 }
 
-/// The length of the name or the key.
+/// Returns the length of the name or the key.
 #[inline(always)]
 fn name_length(c: &Cfg) -> usize
     ensures { result ≡ length (pair_of (value_of c.now)).name }
@@ -76,8 +77,8 @@ fn name_length(c: &Cfg) -> usize
     }
 }
 
-// Stands apart, so that the search of a list is a loop of a few instructions.
-/// Whether two facts are equal.
+// This is a function of its own, so that the search of a list is a loop of a few instructions.
+/// Returns whether two facts are equal.
 #[cold]
 #[inline(never)]
 fn are_equal(fact: &Cfg, c: &Cfg) -> bool
@@ -86,7 +87,7 @@ fn are_equal(fact: &Cfg, c: &Cfg) -> bool
     fact == c
 }
 
-/// An order of names: by their lengths, which mostly differ, and then by their bytes.
+/// Orders names by their lengths, which mostly differ, and then by their bytes.
 #[inline(always)]
 fn by_length(a: &Ident, b: &Ident) -> Ordering
     ensures { result ≡ length_cmp (alone a.now) (alone b.now) }
@@ -107,7 +108,7 @@ struct KeyValue {
 }
 
 impl KeyValue {
-    /// A copy of a key and its value. It refuses only where memory is refused.
+    /// Copies a key and its value. Fails only if an allocation fails.
     #[inline(always)]
     fn new(alloc: Global, key: &Ident, value: &str) -> Result<KeyValue, AllocError>
         ensures { IfOk result (λ pair. key_value pair ≡ KeyPair (name_of key.now) value.now) }
@@ -118,8 +119,8 @@ impl KeyValue {
         })
     }
 
-    /// The order of the pair and another one, of which the key and the value are given: by the lengths of the values,
-    /// which mostly differ, and then by keys and values.
+    /// Orders the pair and another one, whose key and value are given: by the lengths of the values, which mostly
+    /// differ, and then by keys and values.
     #[inline(always)]
     fn by_length(&self, key: &Ident, value: &str) -> Ordering
         ensures { result ≡ length_cmp (key_value self.now) (KeyPair (name_of key.now) value.now) }
@@ -127,7 +128,7 @@ impl KeyValue {
         let length = self.value.len();
         let other = value.len();
         if length == other {
-            // Telling that texts are equal takes less than putting them in order.
+            // Testing texts for equality is faster than ordering them.
             if self.key == *key {
                 return self.value.as_str().cmp(value);
             }
@@ -137,7 +138,7 @@ impl KeyValue {
     }
 }
 
-/// A name that is looked for.
+/// A name to search for.
 #[derive(Clone, Copy)]
 struct SoughtName<'a>(&'a Ident);
 
@@ -151,7 +152,7 @@ impl<'a, T: Tally> Sought<Ident, T> for SoughtName<'a> {
     }
 }
 
-/// A pair that is looked for.
+/// A pair to search for.
 #[derive(Clone, Copy)]
 struct SoughtPair<'a>(&'a Ident, &'a str);
 
@@ -165,9 +166,9 @@ impl<'a, T: Tally> Sought<KeyValue, T> for SoughtPair<'a> {
     }
 }
 
-/// Facts kept in order, so that asking for one goes over few of them. It means the set of the pairs of the values that
-/// it was made of.
-// Names and pairs lie in lists of their own, each of which asks for less memory at once than one list of both.
+/// A sorted set of facts, in which a query compares only a few of them. It represents the set of the pairs of the
+/// values that it was made from.
+// Names and pairs are in lists of their own, so that each allocation is smaller than one list of both would need.
 #[derive(Drop)]
 pub struct FactIndex {
     names: Sorted<Ident>,
@@ -177,9 +178,9 @@ pub struct FactIndex {
 }
 
 impl FactIndex {
-    /// An index of copies of the facts in `cfg`. It refuses only where memory is refused.
+    /// Creates an index of copies of the facts in `cfg`. Fails only if an allocation fails.
     pub fn new(alloc: Global, cfg: &[Cfg]) -> Result<FactIndex, AllocError>
-        // It means the set of its facts.
+        // It represents the set of the facts in `cfg`.
         ensures { IfOk result (λ index. ⟦<FactIndex as Facts>⟧.meant index ≡ fact_set (map value_of cfg.now)) }
     {
         let name_count = cfg
@@ -217,35 +218,35 @@ impl Facts for FactIndex {
 }
 
 impl CfgExpr {
-    /// Whether the expression is true over the facts in `cfg`.
+    /// Returns whether the expression is true over the facts in `cfg`.
     ///
-    /// A name or a pair is true where it is one of the facts, whatever the raw marks of both; `not` is negation, `all`
-    /// asks for every member and `any` for some member, so that `all()` is true and `any()` is false. This is the
+    /// A name or a pair is true if it is one of the facts, whatever the raw marks of both. `not` is negation, `all`
+    /// needs every member to be true and `any` some member, so that `all()` is true and `any()` is false. This is the
     /// conditional compilation of the Rust reference, as Cargo's reference uses it to select dependencies by platform.
     pub fn matches(&self, cfg: &[Cfg]) -> bool
-        // Truth is over the set of facts: order, repeats and marks play no part.
+        // Truth depends on the set of facts: their order, repetitions and raw marks play no part.
         ensures { result ≡ truth (fact_set (map value_of cfg.now)) (tree_of self.now) }
     {
         self.matches_in(&Listed(cfg))
     }
 
-    /// Whether the expression is true over the set of facts that the holder means. The holder is asked as often as
-    /// `matches_counted` tells.
+    /// Returns whether the expression is true over the set of facts that the holder represents. Makes as many queries
+    /// as `matches_counted` returns.
     pub fn matches_in<F: Facts>(&self, facts: &F) -> bool
-        // Truth is over the set of facts: order, repeats and marks play no part.
+        // Truth depends on the set of facts: their order, repetitions and raw marks play no part.
         ensures { result ≡ truth (F.meant facts.now) (tree_of self.now) }
     {
         self.is_true_in(facts, &mut Uncounted)
     }
 
-    /// Whether the expression is true over the set of facts that the holder means, as `matches_in` answers, and how
-    /// often the holder was asked: for each name and pair once at most, from left to right, and for none after one
-    /// that settles its group.
+    /// Returns whether the expression is true over the set of facts that the holder represents, as `matches_in` does,
+    /// and the number of queries to the holder: at most one for each name and pair, from left to right, and none after
+    /// a member that decides its group.
     pub fn matches_counted<F: Facts>(&self, facts: &F) -> (bool, Asks)
-        // Truth is over the set of facts: order, repeats and marks play no part.
+        // Truth depends on the set of facts: their order, repetitions and raw marks play no part.
         ensures truth { result.0 ≡ truth (F.meant facts.now) (tree_of self.now) }
-        // A holder is asked once for each name and pair, from left to right, and for none after one that settles its
-        // group.
+        // The holder gets one query for each name and pair, from left to right, and none after a member that decides
+        // its group.
         ensures asks { result.1 ≡ min (asks (F.meant facts.now) (tree_of self.now)) (2 ^ 128 - 1) }
     {
         let mut asks = Asks::none();
@@ -253,9 +254,9 @@ impl CfgExpr {
         (answer, asks)
     }
 
-    /// Whether the expression is true over the set of facts that the holder means.
-    // Goes down the last members in a loop, so that what recurses are the groups that others follow. A holder is asked
-    // in a function of its own, so that a level of the recursion takes few bytes.
+    /// Returns whether the expression is true over the set of facts that the holder represents.
+    // Follows last members in a loop, so that the recursion is over groups that others follow. The holder is queried in
+    // a function of its own, so that a level of the recursion needs few bytes of stack.
     #[cycle(matches)]
     #[tactic(auto, using(crate::proofs::LastMembers::asked_not))]
     fn is_true_in<F: Asked<T>, T: Tally>(&self, facts: &F, tally: &mut T) -> bool
@@ -284,7 +285,7 @@ impl CfgExpr {
         }
     }
 
-    /// Without recursion where it is a name or a pair.
+    /// Returns whether a member is true, without recursion if it is a name or a pair.
     #[cycle(matches)]
     #[inline(always)]
     fn is_true_member<F: Asked<T>, T: Tally>(&self, facts: &F, tally: &mut T) -> bool
@@ -297,7 +298,7 @@ impl CfgExpr {
         }
     }
 
-    /// The last member, which all of them hang on, or whether they are true.
+    /// Returns whether all members are true, or the last member if the answer depends on it.
     #[cycle(matches)]
     #[inline(always)]
     #[tactic(auto, using(crate::proofs::LastMembers::and_true))]
@@ -330,7 +331,7 @@ impl CfgExpr {
         ControlFlow::Break(true)
     }
 
-    /// The last member, which any of them hangs on, or whether one is true.
+    /// Returns whether any member is true, or the last member if the answer depends on it.
     #[cycle(matches)]
     #[inline(always)]
     #[tactic(auto, using(crate::proofs::LastMembers::or_false))]

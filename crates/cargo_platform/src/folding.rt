@@ -1,4 +1,4 @@
-//! What a fold makes of each form, and the loop that goes over an expression.
+//! Folds an expression in a loop, by what a `Fold` makes of each form.
 
 ghost use Rattle.std.specs.Prelude.{◌≡◌, ◌≤◌, ◌+◌, ◌*◌, [], ◌∷◌, ◌++◌, Bool, List, map, IfOk};
 ghost use Rattle.std.specs.Bool.{MatchBool};
@@ -15,38 +15,39 @@ use groups::{EnteredGroup, EnteredGroups, EnteredList};
 use std::alloc::{AllocError, Global};
 use std::ops::ControlFlow;
 
-/// What is made of an expression, by what is made of the parts inside it.
+/// What to make of an expression from what was made of its parts.
 pub trait Fold {
-    /// What is made of an expression.
+    /// The result of an expression.
     type Part: Drop;
 
-    /// What is made of the first members of an `all` or `any`.
+    /// The result of the first members of an `all` or `any`.
     type Members: Drop;
 
-    // The part is rightly made of the tree.
+    // The part is a correct result of the tree.
     ghost makes: { Self → Tree → Self.Part → Type 0 };
 
-    // It is rightly made of the first members of a group with this neutral truth.
+    // It is a correct result of the first members of a group with this neutral truth.
     ghost gathers: { Self → Bool → List Tree → Self.Members → Type 0 };
 
-    /// What is made of a name or a pair.
+    /// Returns the result of a name or a pair.
     fn value(&self, c: &Cfg) -> Result<Self::Part, AllocError>
         ensures { IfOk result (λ part. makes self.now (Value (value_of c.now)) part) };
 
-    /// What is made of a literal.
+    /// Returns the result of a literal.
     fn literal(&self, truth: bool) -> Self::Part
         ensures { MatchBool truth (makes self.now True result) (makes self.now False result) };
 
-    /// What is made of a negation, by what was made of the expression inside.
+    /// Returns the result of a negation, from the result of the negated expression.
     fn negation(&self, part: Self::Part) -> Result<Self::Part, AllocError>
         ensures { IfOk result (λ whole. (e : Tree) → makes self.now e part → makes self.now (Not e) whole) };
 
-    /// What is made of no members. `neutral` is the truth after which the group goes on: `all` goes on after members
-    /// that are true, and `any` after false ones.
+    /// Returns the result of no members. `neutral` is the truth after which the group goes on: `all` goes on after
+    /// members that are true, and `any` after false ones.
     fn no_members(&self, neutral: bool) -> Self::Members
         ensures { gathers self.now neutral [] result };
 
-    /// What is made of some members and one more; or what is made of the whole group, where no further member matters.
+    /// Adds one more member to the result of some members. Returns the result of the whole group if no further member
+    /// matters.
     fn add(
         &self,
         neutral: bool,
@@ -58,23 +59,23 @@ pub trait Fold {
             (λ more. gathers self.now neutral (es ++ e ∷ []) more)
             (λ whole. (others : List Tree) → makes self.now (list_tree neutral (es ++ e ∷ others)) whole)) };
 
-    /// What is made of a group, by what was made of its members.
+    /// Returns the result of a group, from the result of its members.
     fn group(&self, neutral: bool, members: Self::Members) -> Self::Part
         ensures { (es : List Tree) → gathers self.now neutral es members
             → makes self.now (list_tree neutral es) result };
 }
 
-/// What is next: an expression that is to be gone over, or what was made of one.
+/// The next thing to handle: an expression to fold, or the result of one.
 #[derive(Drop)]
 pub enum Next<'a, P> {
     Expression(&'a CfgExpr),
     Part(P),
 }
 
-/// What the fold makes of the expression, in one walk over it, without recursion. It refuses where the fold does, and
-/// where memory for the groups around a part is refused.
+/// Folds the expression in one walk, without recursion. Fails if the fold fails, or if an allocation for the groups
+/// around a part fails.
 pub fn fold_expression<F: Fold>(alloc: Global, e: &CfgExpr, f: &F) -> Result<F::Part, AllocError>
-    // What is answered is rightly made of the whole expression.
+    // The result is a correct one of the whole expression.
     ensures { IfOk result (λ part. F.makes f.now (tree_of e.now) part) }
 {
     let mut groups = EnteredGroups::new(alloc);
@@ -90,7 +91,7 @@ pub fn fold_expression<F: Fold>(alloc: Global, e: &CfgExpr, f: &F) -> Result<F::
     }
 }
 
-/// Opens the expression, or makes what is made of one without parts.
+/// Opens the expression if it has parts, and else returns its result.
 fn enter<'a, F: Fold>(
     e: &'a CfgExpr,
     f: &F,
@@ -115,7 +116,7 @@ fn enter<'a, F: Fold>(
     }
 }
 
-/// Adds what was made of a part to the group around it.
+/// Adds the result of a part to the group around it.
 fn close<'a, F: Fold>(
     group: EnteredGroup<'a, F::Members>,
     part: F::Part,

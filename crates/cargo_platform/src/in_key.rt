@@ -1,4 +1,4 @@
-//! Where a text is refused that is the key of a manifest.
+//! Finds the place of a fault in the key of a manifest.
 
 ghost use Rattle.std.specs.Prelude.{◌≡◌, IfOk, MatchOption};
 ghost use Rattle.cargo_platform.specs.Errors.{fault_in, fault_meant, orig_of, span_in};
@@ -13,13 +13,13 @@ use std::alloc::{AllocError, Global};
 use std::ops::Range;
 
 impl ParseError {
-    /// Where the fault lies in the key of a manifest, in bytes of the key. A refused target name is the key; what any
-    /// other error is of stands in the key between `cfg(` and `)`. With another key the answer is `None`, and so it is
-    /// for an error that `new` made.
+    /// Returns the bytes of a manifest's key at which the fault lies. A rejected target name is the whole key. The text
+    /// of any other error is in the key between `cfg(` and `)`. Returns `None` for a key that does not have this text,
+    /// and for an error that `new` made.
     ///
-    /// An error does not know its reader, so ask with the key that `Platform::from_str` refused.
+    /// An error does not know which function returned it, so pass the key that `Platform::from_str` rejected.
     pub fn span_in(&self, key: &str) -> Option<Range<usize>>
-        // Where the fault lies in the whole key.
+        // The fault's place in the whole key.
         ensures { IsSpanInKey key.now (orig_of self.now) (fault_in self.now) (span_in self.now) result }
     {
         let span = self.span()?;
@@ -27,10 +27,10 @@ impl ParseError {
         further(span, place)
     }
 
-    /// Two lines for people as those of `snippet`, which show the key of a manifest and the span in it. Where `span_in`
-    /// answers `None` there are none.
+    /// Returns two lines for people, as `snippet` does, which show the manifest's key and the fault's span in it.
+    /// Returns `None` if `span_in` does.
     pub fn snippet_in(&self, alloc: Global, key: &str) -> Result<Option<String>, AllocError>
-        // Where the fault lies in the whole key.
+        // The fault's place in the whole key.
         ensures { IfOk result
             (λ s. IsSnippetOfKey key.now (orig_of self.now) (fault_in self.now) (span_in self.now) s) }
     {
@@ -41,7 +41,7 @@ impl ParseError {
     }
 }
 
-/// How many bytes into the key the text of an error of this kind begins, where it stands there.
+/// Returns the byte of the key at which the text of an error of this kind begins, if the text is there.
 fn place_in(key: &str, text: &str, kind: &ParseErrorKind) -> Option<usize>
     ensures { MatchOption result
         (IsNotIn key.now text.now (fault_meant kind.now))
@@ -54,7 +54,7 @@ fn place_in(key: &str, text: &str, kind: &ParseErrorKind) -> Option<usize>
     if inner == text { Some(4) } else { None }
 }
 
-/// The span so many bytes further, where its places can be counted.
+/// Returns the span moved by `place` bytes, if its ends fit a `usize`.
 pub(crate) fn further(span: Range<usize>, place: usize) -> Option<Range<usize>>
     ensures { MatchOption result (IsTooFar place span) (λ found. found ≡ further place span) }
 {
@@ -63,7 +63,7 @@ pub(crate) fn further(span: Range<usize>, place: usize) -> Option<Range<usize>>
     Some(start..end)
 }
 
-/// Whether errors of the kind are of target names.
+/// Returns whether errors of the kind are about target names.
 fn is_of_name(kind: &ParseErrorKind) -> bool
     ensures { result ≡ is_of_name (fault_meant kind.now) }
 {

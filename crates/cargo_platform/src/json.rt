@@ -1,4 +1,4 @@
-//! Conditions as JSON: a condition is the text that it prints.
+//! Converts conditions to JSON and back: a condition is a string, which holds what it prints.
 
 ghost use Rattle.std.specs.Prelude.{◌≡◌, ◌↔◌, ℕ, List, IfOk, IsErrOf};
 ghost use Rattle.serde_json.specs.Data as json;
@@ -15,34 +15,34 @@ use crate::{ParseError, Platform, ReadError};
 use serde_json::Value;
 use std::alloc::{AllocError, Global};
 
-/// Why a JSON value is read as no condition.
+/// Why a JSON value is not a condition.
 #[derive(Debug, Drop)]
 pub enum JsonError {
-    /// The value is no text.
+    /// The value is not a string.
     NotText,
-    /// The text is refused.
+    /// The text is rejected.
     Parse(ParseError),
-    /// Memory was refused.
+    /// An allocation failed.
     Memory(AllocError),
 }
 
 impl Platform {
-    /// The printed condition, as a JSON text. It refuses only where memory is refused.
+    /// Returns the printed condition as a JSON string. Fails only if an allocation fails.
     pub fn to_json(&self, alloc: Global) -> Result<Value, AllocError>
-        // The print, as a text.
+        // The printed condition, as a JSON string.
         ensures { IfOk result (λ v. view v ≡ json.string (print_condition (condition_of self.now))) }
     {
         Ok(Value::String(format!(in alloc; "{self}")?))
     }
 
-    /// The condition that a JSON text spells, as `Platform::from_str` reads it.
+    /// Parses the condition in a JSON string, as `Platform::from_str` does.
     ///
-    /// A null, a truth value, a number, a list and an object are refused with `NotText`, and only these. A text is
-    /// refused as `from_str` refuses it, with the same error.
+    /// Returns `NotText` for null, a boolean, a number, an array or an object, and for nothing else. Rejects a string
+    /// as `from_str` does, with the same error.
     pub fn from_json(alloc: Global, value: &Value) -> Result<Platform, JsonError>
-        // `NotText` comes exactly of what is no text.
+        // `NotText` is returned exactly for what is not a string.
         ensures not_text { IsErrOf result NotText ↔ (IsText (view value.now) → ⊥) }
-        // A text is read as `from_str` promises.
+        // A string is parsed as `from_str` promises.
         ensures condition { (text : List ℕ) → view value.now ≡ json.string text
             → IfOk result (λ p. IsConditionText text (condition_of p)) }
         ensures fault { (text : List ℕ) → view value.now ≡ json.string text

@@ -1,4 +1,4 @@
-//! Laws over the definitions. The functions do nothing: each contract is a law.
+//! Laws: statements about the definitions. The functions have empty bodies, and each contract is a law.
 
 ghost use Rattle.std.specs.Prelude.{◌≡◌, ◌≤◌, true, false, ℕ, List, [], length, Option, IsUtf8, Box, Vec};
 ghost use Rattle.std.specs.declared.alloc.Global.{Global};
@@ -49,103 +49,103 @@ pub fn one_cut()
     ensures { (text : List ℕ) → IsUtf8 text → HasOneCut text }
 {}
 
-/// Calls of `next` from the start of a text give the tokens of its cut, and then its tail.
+/// From the start of a text, calls of `next` return the tokens of its cut, and then its tail.
 pub fn cuts_are_read()
     ensures { (text : List ℕ) → CutsAreRead text }
 {}
 
-/// Calls of `next` from the start of a text give no tokens but those of its cut.
+/// From the start of a text, calls of `next` return no tokens other than those of its cut.
 pub fn read_alike()
     ensures { (text : List ℕ) → IsReadAlike text }
 {}
 
-/// After `None` comes `None`.
+/// After `None`, every call returns `None`.
 pub fn ends_for_good()
     ensures { (old new : Progress) → EndsForGood old new }
 {}
 
-/// After a fault comes `None`.
+/// After a fault, `next` returns `None`.
 pub fn fails_once()
     ensures { (old new : Progress) → FailsOnce old new }
 {}
 
-/// Tokens spell at most one name or pair.
+/// Tokens mean at most one name or pair.
 pub fn one_value()
     ensures { (ts : List Lexeme) → HasOneValue ts }
 {}
 
-/// Tokens spell at most one expression.
+/// Tokens mean at most one expression.
 pub fn one_tree()
     ensures { (ts : List Lexeme) → HasOneTree ts }
 {}
 
-/// A text spells at most one name or pair, one expression, and one condition.
+/// A text means at most one name or pair, one expression, and one condition.
 pub fn one_text()
     ensures values { (text : List ℕ) → AtMostOne IsValueText text }
     ensures expressions { (text : List ℕ) → AtMostOne IsTreeText text }
     ensures conditions { (text : List ℕ) → AtMostOne IsConditionText text }
 {}
 
-/// Well-written tokens spell only well-formed values and trees.
+/// Tokens that are written well mean only well-formed values and trees.
 pub fn well_formed()
     ensures { (ts : List Lexeme) → SpellsWellFormed ts }
 {}
 
-/// What a text spells is well-formed.
+/// Whatever a text means is well-formed.
 pub fn well_formed_text()
     ensures values { (text : List ℕ) → SpellsOnly IsValueText IsWellFormedValue text }
     ensures expressions { (text : List ℕ) → SpellsOnly IsTreeText IsWellFormed text }
     ensures conditions { (text : List ℕ) → SpellsOnly IsConditionText IsWellFormedCondition text }
 {}
 
-/// A prefix of tokens that can be completed can be completed, and so can no tokens at all.
+/// Every prefix of tokens that can be completed can be completed too, and so can the empty list of tokens.
 pub fn prefixes_completable()
     ensures prefixes { (g : Grammar) (prefix after : List Lexeme) → PrefixesAreCompletable g prefix after }
     ensures none { (g : Grammar) → IsCompletable g [] }
 {}
 
-/// Tokens that can be completed as an expression need at most three tokens more than they have `(`.
+/// Tokens that can be completed to an expression need at most three tokens more than they have `(`.
 pub fn completed_shortly()
     ensures { (ts : List Lexeme) → IsCompletedShortly ts }
 {}
 
-/// The words that are open and the last token tell whether tokens can be completed.
+/// The groups that are open and the last token decide whether tokens can be completed.
 pub fn walked_iff_completable()
     ensures { (g : Grammar) (ts : List Lexeme) → IsWalkedIffCompletable g ts }
 {}
 
-/// The words that are open and the last token tell which next tokens keep tokens completable.
+/// The groups that are open and the last token decide after which next tokens they can still be completed.
 pub fn kept_by_walk()
     ensures { (g : Grammar) (ts : List Lexeme) (t : Lexeme) → IsKeptByWalk g ts t }
 {}
 
-/// Where a text goes wrong: the tokens before that place can be completed, with the next one they can't, and what is
-/// expected there could have come.
+/// At the place of a text's fault, the tokens before it can be completed, with the next one they can't, and what the
+/// fault names as expected is allowed.
 pub fn fault_prefix()
     ensures completable { (g : Grammar) (ts prefix after : List Placed) → IsPrefixCompletable g ts prefix after }
     ensures stopped { (g : Grammar) (ts prefix after : List Placed) → IsStoppedByNext g ts prefix after }
     ensures expected { (g : Grammar) (ts prefix after : List Placed) → IsExpectedToFollow g ts prefix after }
 {}
 
-/// What the fault of a text names as expected could have come where the text goes wrong.
+/// What the fault of a text names as expected is allowed at the place of the fault.
 pub fn named_can_follow()
     ensures { (g : Grammar) (text : List ℕ) (fault : Fault) → NamesWhatCanFollow g text fault }
 {}
 
-/// A text has at most one fault as a name or a pair, one as an expression, and one as a condition, which is that of one
-/// text.
+/// A text has at most one fault as a name or a pair, one as an expression, and one as a condition. The fault as a
+/// condition is about exactly one text.
 pub fn one_fault()
     ensures texts { (g : Grammar) (text : List ℕ) → AtMostOne (IsRefused g) text }
     ensures conditions { (text : List ℕ) → AtMostOne IsConditionRefusal text }
 {}
 
-/// The fault of a text lies in one place.
+/// The fault of a text has exactly one place.
 pub fn one_place()
     ensures texts { (g : Grammar) (text : List ℕ) → AtMostOne (IsPlacedRefusal g) text }
     ensures conditions { (text : List ℕ) → AtMostOne IsPlacedConditionRefusal text }
 {}
 
-/// It lies within the text, and begins and ends at characters.
+/// The place of a fault is within the text, and begins and ends between characters.
 pub fn faults_are_placed()
     ensures texts { (g : Grammar) (text : List ℕ) (fault : Fault) (span : Range ℕ) → IsUtf8 text
         → IsPlacedWithin g text fault span }
@@ -153,10 +153,10 @@ pub fn faults_are_placed()
         → IsConditionPlacedWithin text orig fault span }
 {}
 
-/// The span of what is left after a whole value or expression is that of its text. The text before the span of any
-/// fault is cut into the tokens of the fault prefix, and nothing of it is left but the mark `r#` of a lexical fault.
-/// The next token begins with the span. Before the span of a refused target name stands a target name, where it does
-/// not begin with `cfg(`.
+/// The span of what is left after a whole value or expression is the span of that text. The text before the span of any
+/// fault is cut into the tokens of the fault prefix, and nothing of it is left except the mark `r#` of a lexical fault.
+/// The next token begins where the span begins. The text before the span of a rejected target name is a target name
+/// itself, unless it begins with `cfg(`.
 pub fn around_spans()
     ensures surplus { (g : Grammar) (text rest : List ℕ) → IsSurplusAt g text rest }
     ensures prefix { (g : Grammar) (text : List ℕ) (fault : Fault) (r : IsRefused g text fault) → IsBehindPrefix r }
@@ -164,50 +164,50 @@ pub fn around_spans()
     ensures name { (text : List ℕ) (span : Range ℕ) → IsBehindName text span }
 {}
 
-/// Where a key is refused as a condition, what `ParseError::span_in` answers lies in the key, in order, and begins and
-/// ends at characters.
+/// If a key is rejected as a condition, the range that `ParseError::span_in` returns is within the key, its start is
+/// not after its end, and it begins and ends between characters.
 pub fn faults_are_in_keys()
     ensures { (key text : List ℕ) (fault : Fault) (span : Range ℕ) (found : Option (Range ℕ)) → IsUtf8 key
         → IsFoundInKey key text fault span found }
 {}
 
-/// Where a text of facts is refused, what `FactsError::span_in` answers lies in the whole text, in order. It begins and
-/// ends at characters.
+/// If a text of facts is rejected, the range that `FactsError::span_in` returns is within the whole text, its start is
+/// not after its end, and it begins and ends between characters.
 pub fn faults_are_in_facts()
     ensures { (text : List ℕ) (error : FactsError) (found : Option (Range ℕ)) → IsUtf8 text
         → IsFoundInFacts text error found }
 {}
 
-/// A text spells a name or a pair, or has a fault as one. So it is with expressions and conditions.
+/// Every text either means a name or a pair or has a fault as one. The same is true of expressions and of conditions.
 pub fn spelled_or_refused()
     ensures values { (text : List ℕ) → IsUtf8 text → SpellsOrIsRefused IsValueText (IsRefused Values) text }
     ensures expressions { (text : List ℕ) → IsUtf8 text → SpellsOrIsRefused IsTreeText (IsRefused Expressions) text }
     ensures conditions { (text : List ℕ) → IsUtf8 text → SpellsOrIsRefused IsConditionText IsConditionRefusal text }
 {}
 
-/// A text never does both.
+/// No text has both a meaning and a fault.
 pub fn refused_spells_nothing()
     ensures values { (text : List ℕ) → RefusedSpellsNothing IsValueText (IsRefused Values) text }
     ensures expressions { (text : List ℕ) → RefusedSpellsNothing IsTreeText (IsRefused Expressions) text }
     ensures conditions { (text : List ℕ) → RefusedSpellsNothing IsConditionText IsConditionRefusal text }
 {}
 
-/// The print of what is well-formed spells it.
+/// The printed text of whatever is well-formed means it.
 pub fn print_spells()
     ensures values { (c : CfgValue) → PrintSpells IsValueText IsWellFormedValue print_value c }
     ensures expressions { (e : Tree) → PrintSpells IsTreeText IsWellFormed print e }
     ensures conditions { (p : Condition) → PrintSpells IsConditionText IsWellFormedCondition print_condition p }
 {}
 
-/// Two well-formed values, expressions or conditions print alike only if they are the same.
+/// Two well-formed values, expressions or conditions are printed alike only if they are the same.
 pub fn prints_apart()
     ensures values { (c d : CfgValue) → PrintsApart IsWellFormedValue print_value c d }
     ensures expressions { (d e : Tree) → PrintsApart IsWellFormed print d e }
     ensures conditions { (p q : Condition) → PrintsApart IsWellFormedCondition print_condition p q }
 {}
 
-/// Marked `true` and `false` alone are names; in the Rust crate they are the literals. What tokens spelled there is
-/// told by what they spell; the same lists of tokens are accepted, and the same texts refused, with the same faults.
+/// Marked `true` and `false` alone are names. In the Rust crate they are literals. What tokens mean there is determined
+/// by what they mean here: the same lists of tokens are accepted, and the same texts are rejected with the same faults.
 /// The transitional grammar is that of the Rust crate with this change alone.
 pub fn marked_literals_are_names()
     ensures spelled { (ts : List Lexeme) → SpelledReleased ts }
@@ -215,33 +215,34 @@ pub fn marked_literals_are_names()
     ensures refused { (text : List ℕ) (fault : Fault) → IsRefusedAsReleased text fault }
 {}
 
-/// Whether marked `true` and `false` alone are names or literals, the same texts spell an expression, and the same one
-/// if none of them stands in it.
+/// Whether marked `true` and `false` alone are names or literals, the same texts are accepted as expressions, and they
+/// mean the same expression if it contains none of the two.
 pub fn expressions_as_released()
     ensures accepted { (text : List ℕ) → IsTreeTextAsReleased text }
     ensures kept { (text : List ℕ) → KeepsTree text }
 {}
 
-/// Whether marked `true` and `false` alone are names or literals, the same texts spell a condition, and the same one if
-/// none of them stands in it. The other texts have the same faults.
+/// Whether marked `true` and `false` alone are names or literals, the same texts are accepted as conditions, and they
+/// mean the same condition if it contains none of the two. The other texts have the same faults.
 pub fn conditions_as_released()
     ensures accepted { (text : List ℕ) → IsConditionTextAsReleased text }
     ensures kept { (text : List ℕ) → KeepsCondition text }
     ensures refused { (text orig : List ℕ) (fault : Fault) → IsConditionRefusedAsReleased text orig fault }
 {}
 
-/// Unmarked `true` and `false` are no keys in an expression; in the transitional grammar they are. What is spelled was
-/// spelled there, and what was spelled there is refused exactly where one of them is a key in it.
+/// Unmarked `true` and `false` can't be keys in an expression. In the transitional grammar they can. Whatever tokens
+/// mean here they mean there, and what tokens mean there is rejected here exactly if one of the two is a key in it.
 pub fn literals_are_no_keys()
     ensures spelled { (ts : List Lexeme) → SpelledTransitional ts }
     ensures refused { (ts : List Lexeme) → IsRefusedForLiteralKeys ts }
 {}
 
-/// From the Rust crate's grammar of expressions to today's. What a text spelled there is told by what it spells now. It
-/// spells nothing now exactly where an unmarked `true` or `false` is a key. A text that was refused there is refused,
-/// at the same token or an earlier one, and with the same fault where what stands before it can still be completed.
-/// Today's fault was the fault there, or it is at `=` right after an unmarked `true` or `false`. Then that was a key,
-/// and the text was read on: its fault there comes later, or it spelled an expression.
+/// Compares the Rust crate's grammar of expressions with today's. What a text means there is determined by what it
+/// means now. A text that has a meaning there has none now exactly if an unmarked `true` or `false` is a key in it. A
+/// text that is rejected there is rejected now, at the same token or an earlier one, and with the same fault if what is
+/// before that fault can still be completed. Today's fault is either the fault there or at the `=` right after an
+/// unmarked `true` or `false`. In the second case, the Rust crate takes that word as a key and goes on: its fault comes
+/// later, or it accepts the text.
 pub fn texts_as_released()
     ensures spelled { (text : List ℕ) → SpelledReleasedText text }
     ensures refused { (text : List ℕ) → IsTextRefusedForLiteralKeys text }
@@ -252,46 +253,47 @@ pub fn texts_as_released()
     ensures read_at_key { (text : List ℕ) (now : Fault) → IsAtKeyWhereRead text now }
 {}
 
-/// Which trees are well-formed in the Rust crate's grammar, in the transitional one, and today: the first without
-/// marked literals alone, the last without unmarked ones as keys.
+/// Compares which trees are well-formed in the Rust crate's grammar, in the transitional one, and today: the Rust
+/// crate's excludes marked literals alone, and today's excludes unmarked ones as keys.
 pub fn well_formed_as_before()
     ensures released { (e : Tree) → WasWellFormedWithoutMarkedLiterals e }
     ensures today { (e : Tree) → IsWellFormedWithoutLiteralKeys e }
 {}
 
-/// No text that is read gives a warning on a keyword: such warnings are of trees that are made by hand.
+/// No text that is accepted leads to a warning about a keyword. Only trees that are built by hand do.
 pub fn no_keyword_is_read()
     ensures { (text : List ℕ) → GivesNoKeyword text }
 {}
 
-/// The fact set of a list holds the pairs of its members, so that order, repeats and raw marks play no part.
+/// The fact set of a list has exactly the pairs of its members, so that order, repetitions and raw marks play no part.
 pub fn facts_are_pairs_of_members()
     ensures { (cs : List CfgValue) (p : Pair) → IsInWhereListed cs p }
 {}
 
-/// Truth depends on the set of facts alone.
+/// Truth depends only on the set of facts.
 pub fn truth_is_of_facts()
     ensures sets { (s t : FactSet) (e : Tree) → HaveSameFacts s t → truth s e ≡ truth t e }
     ensures lists { (cs ds : List CfgValue) (e : Tree) → HaveSamePairs cs ds
         → truth (fact_set cs) e ≡ truth (fact_set ds) e }
 {}
 
-/// The truth of a condition as a function, by which `Platform::matches` answers, says which conditions are true.
+/// The function that gives the truth of a condition, by which `Platform::matches` answers, agrees with the relation
+/// that says which conditions are true.
 pub fn truth_of_conditions()
     ensures { (target : List ℕ) (facts : FactSet) (p : Condition) → IsTruthOfCondition target facts p }
 {}
 
-/// A holder is asked no more often than the tree has names and pairs.
+/// The number of queries to a holder is at most the number of names and pairs in the tree.
 pub fn asks_within_values()
     ensures { (facts : FactSet) (e : Tree) → asks facts e ≤ length (values e) }
 {}
 
-/// In a tree with no `Not`, more facts never turn truth into falsehood.
+/// In a tree without `Not`, more facts never turn truth into falsehood.
 pub fn truth_is_monotone()
     ensures { (fewer more : FactSet) (e : Tree) → IsMonotone fewer more e }
 {}
 
-/// `not(all(..))` is as true as `any(..)` of the negated members.
+/// `not(all(..))` has the same truth as `any(..)` of the negated members.
 pub fn not_all_is_any_not()
     ensures { (facts : FactSet) (es : Trees) → IsNotAllAnyNot facts es }
 {}
@@ -302,7 +304,7 @@ pub fn groups_of_none()
     ensures any { (facts : FactSet) → truth facts (Any none) ≡ false }
 {}
 
-/// Keys are totally ordered, and `Equal` holds exactly where keys are equal.
+/// Keys are totally ordered, and `Equal` means that the keys are equal.
 pub fn keys_are_ordered()
     ensures names { IsOrderOfKeys name_key name_cmp }
     ensures values { IsOrderOfKeys value_key value_cmp }
@@ -310,7 +312,7 @@ pub fn keys_are_ordered()
     ensures conditions { IsOrderOfKeys condition_key condition_cmp }
 {}
 
-/// A hasher is fed the same by a value and by its key.
+/// A value and its key feed a hasher the same input.
 pub fn hashes_are_of_keys()
     ensures names { (n : Name) → name_hash (name_key n) ≡ name_hash n }
     ensures values { (c : CfgValue) → value_hash (value_key c) ≡ value_hash c }
@@ -324,7 +326,7 @@ pub fn lines_are()
     ensures only { (text : List ℕ) (ls : List (List ℕ)) → AreLines text ls → ls ≡ lines_of text }
 {}
 
-/// An expression is seen form by form.
+/// The tree of an expression is determined form by form.
 pub fn views_by_form()
     ensures negations { (e : Box CfgExpr Global) → IsNotOf e }
     ensures all { (es : Vec CfgExpr Global) → IsAllOf es }
@@ -333,12 +335,12 @@ pub fn views_by_form()
     ensures literals { AreLiterals }
 {}
 
-/// The order by which a set of facts is kept is total, and only equal pairs tie.
+/// The order in which a set of facts is kept is total, and only equal pairs tie.
 pub fn pairs_are_ordered()
     ensures { IsOrderOfKeys (λ (p : Pair). p) pair_cmp }
 {}
 
-/// A tree is no deeper than it is large.
+/// The depth of a tree is at most its size.
 pub fn depth_within_size()
     ensures { (e : Tree) → depth e ≤ size e }
 {}

@@ -1,9 +1,9 @@
-//! The target conditions of a Cargo manifest: read from text, printed, matched over facts, compared and warned about.
+//! Parses, prints, evaluates, compares and checks the target conditions of Cargo manifests.
 //!
-//! The key of a `[target.KEY.dependencies]` table is the name of a target, as `x86_64-apple-darwin`, or a `cfg(..)` of
-//! an expression over facts, as `cfg(all(unix, target_os = "linux"))` (Cargo's reference, "Platform specific
-//! dependencies"). The facts of a target are what `rustc --print cfg` prints. What allocates takes the allocator first
-//! and answers a `Result`.
+//! The key of a `[target.KEY.dependencies]` table is the name of a target, such as `x86_64-apple-darwin`, or `cfg(..)`
+//! around an expression over facts, such as `cfg(all(unix, target_os = "linux"))` (Cargo's reference, "Platform
+//! specific dependencies"). The facts of a target are what `rustc --print cfg` prints. A function that allocates takes
+//! the allocator first and returns a `Result`.
 #![tactic(auto)]
 
 mod asking;
@@ -46,7 +46,7 @@ pub use tokens::{Looks, Spanned, Token, TokenFault, TokenFaultKind, Tokenizer};
 /// The condition of a dependency.
 #[derive(Debug, Drop)]
 pub enum Platform {
-    /// The name of a target, as `x86_64-apple-darwin`.
+    /// The name of a target, such as `x86_64-apple-darwin`.
     Name(String),
     /// An expression, written between `cfg(` and `)`.
     Cfg(CfgExpr),

@@ -1,5 +1,4 @@
-//! Equality, order and hash, all by the key: the value with every raw mark taken off. Here are those of names and
-//! pairs.
+//! Equality, order and hash of names and pairs. They compare keys: values without their raw marks.
 
 ghost use Rattle.std.specs.Prelude.{refl};
 ghost use Rattle.std.specs.Cmp.{eq_by_cmp_equiv, on_equiv, on_total, partial_equiv_from_equiv};
@@ -18,7 +17,7 @@ use std::cmp::Ordering;
 use std::hash::{Hash, Hasher};
 
 impl PartialEq for Ident {
-    // Equality, a total order and the hash go by the key.
+    // Equality, order and hash compare keys: values without their raw marks. The order is total.
     ghost eq = { on name_of (eq_by_cmp name_cmp) };
 
     ghost laws = { partial_equiv_from_equiv (on_equiv name_of (eq_by_cmp_equiv name_total)) };
@@ -44,7 +43,7 @@ impl PartialOrd for Ident {
 }
 
 impl Ord for Ident {
-    // Equality, a total order and the hash go by the key.
+    // Equality, order and hash compare keys: values without their raw marks. The order is total.
     ghost cmp = { on name_of name_cmp };
 
     ghost total = { on_total name_of name_total };
@@ -59,7 +58,7 @@ impl Ord for Ident {
 }
 
 impl Hash for Ident {
-    // Equality, a total order and the hash go by the key.
+    // Equality, order and hash compare keys: values without their raw marks. The order is total.
     ghost hash_input = { λ i. name_hash (name_of i) };
 
     ghost respects_eq = { λ a b same. name_alike (name_of a) (name_of b)
@@ -71,7 +70,7 @@ impl Hash for Ident {
 }
 
 impl PartialEq for Cfg {
-    // Equality, a total order and the hash go by the key.
+    // Equality, order and hash compare keys: values without their raw marks. The order is total.
     ghost eq = { on value_of (eq_by_cmp value_cmp) };
 
     ghost laws = { partial_equiv_from_equiv (on_equiv value_of (eq_by_cmp_equiv value_total)) };
@@ -100,7 +99,7 @@ impl PartialOrd for Cfg {
 }
 
 impl Ord for Cfg {
-    // Equality, a total order and the hash go by the key.
+    // Equality, order and hash compare keys: values without their raw marks. The order is total.
     ghost cmp = { on value_of value_cmp };
 
     ghost total = { on_total value_of value_total };
@@ -115,7 +114,7 @@ impl Ord for Cfg {
             (Cfg::Name(_), Cfg::KeyPair(..)) => Ordering::Less,
             (Cfg::KeyPair(..), Cfg::Name(_)) => Ordering::Greater,
             (Cfg::KeyPair(j, a), Cfg::KeyPair(k, b)) => {
-                // Telling that texts are equal takes less than putting them in order.
+                // Testing texts for equality is faster than ordering them.
                 if j == k {
                     return a.cmp(b);
                 }
@@ -126,7 +125,7 @@ impl Ord for Cfg {
 }
 
 impl Hash for Cfg {
-    // Equality, a total order and the hash go by the key.
+    // Equality, order and hash compare keys: values without their raw marks. The order is total.
     ghost hash_input = { λ c. value_hash (value_of c) };
 
     ghost respects_eq = { λ a b same. value_alike (value_of a) (value_of b)

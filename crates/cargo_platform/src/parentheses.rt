@@ -1,4 +1,4 @@
-//! How many groups of a text lie in one another.
+//! Measures how deeply the groups of a text are nested.
 
 ghost use Rattle.std.specs.Prelude.{◌≡◌, ◌<◌, ◌^◌, IfSome, IfNone};
 ghost use Rattle.cargo_platform.specs.Tokens.{lexeme};
@@ -7,13 +7,13 @@ ghost use Rattle.cargo_platform.specs.Nesting.{IsNestedBeyond, IsDeepAsTree};
 
 use crate::tokens::{Token, Tokenizer};
 
-/// How many groups of a text lie in one another at most: the most parentheses that are open at once. They are counted
-/// over the tokens: one within quotes does not count, nor does what stands behind a token fault. A `)` that closes none
-/// is passed over. The parenthesis of a key's `cfg(` counts too.
+/// Returns how deeply the groups of a text are nested: the greatest number of parentheses that are open at once. Only
+/// parentheses that are tokens count: none within quotes, and none after a lexical fault. A `)` that closes none is
+/// ignored. The parenthesis of a key's `cfg(` counts too.
 pub fn nesting(text: &str) -> usize
-    // The most parentheses that are open at once, over the cut.
+    // The greatest number of parentheses that are open at once, over the cut.
     ensures nesting { IsNesting text.now result }
-    // Of an expression, the groups on the longest way down its tree.
+    // For an expression, the number of groups on the longest path down its tree.
     ensures tree { IsDeepAsTree text.now result }
 {
     let mut unclosed: usize = 0;
@@ -30,10 +30,10 @@ pub fn nesting(text: &str) -> usize
     most
 }
 
-/// The place in bytes of the first `(` with which more than so many parentheses are open, or `None` where a text is
-/// nested no deeper.
+/// Returns the byte position of the first `(` with which more than `most` parentheses are open, or `None` if a text is
+/// nested no deeper than that.
 pub fn nesting_beyond(text: &str, most: usize) -> Option<usize>
-    // The first `(` with which more than `most` are open, or nothing where none is.
+    // The first `(` with which more than `most` parentheses are open, or nothing if there is none.
     ensures passed { IfSome result (λ at. IsPassedAt text.now most at) }
     ensures beyond { IfSome result (λ _. IsNestedBeyond text.now most) }
     ensures within { IfNone result (IsNestedWithin text.now most) }
@@ -53,7 +53,7 @@ pub fn nesting_beyond(text: &str, most: usize) -> Option<usize>
     None
 }
 
-/// How many are open after a token, where so many are open before it.
+/// Returns how many parentheses are open after a token, if `before` are open before it.
 #[inline(always)]
 fn open_after(before: usize, token: &Token<'_>) -> usize
     requires room { before < 2 ^ 63 }

@@ -1,4 +1,4 @@
-//! The reader of expressions: a loop over the groups that are open.
+//! Parses expressions, in a loop over the groups that are open.
 
 ghost use Rattle.std.specs.Prelude.{◌≡◌, ◌≤◌, ◌<◌, false, true, List, [], ◌∷◌, ◌++◌, length, map, IfOk, IfErr, OnOk};
 ghost use Rattle.std.specs.Prelude.{IfSome, IfNone, MatchOption, IsTrue, IsFalse};
@@ -27,14 +27,14 @@ pub(crate) enum Listing {
     Any,
 }
 
-/// A group whose `)` was not read yet, with its members so far.
+/// A group whose `)` was not reached yet, with its members so far.
 #[derive(Drop)]
 enum Group {
     Not,
     List(Listing, Vec<CfgExpr>),
 }
 
-/// The innermost open group, and those around it, from the outermost on.
+/// The innermost open group, and the groups around it, from the outermost inwards.
 #[derive(Drop)]
 struct Opened {
     innermost: Group,
@@ -42,7 +42,7 @@ struct Opened {
 }
 
 impl Opened {
-    /// Puts a member into the innermost group, which is a list.
+    /// Appends a member to the innermost group, which is a list.
     #[inline(always)]
     fn add(&mut self, member: CfgExpr) -> Result<(), AllocError>
         requires { is_list (kinds (openings self.old)) ≡ true }
@@ -55,7 +55,7 @@ impl Opened {
     }
 }
 
-/// The open groups. One group alone asks for no memory.
+/// The open groups. A single group needs no memory.
 #[derive(Drop)]
 struct OpenGroups {
     alloc: Global,
@@ -63,7 +63,7 @@ struct OpenGroups {
 }
 
 impl OpenGroups {
-    /// No groups.
+    /// Returns an empty list of groups.
     fn new(alloc: Global) -> OpenGroups
         ensures { stack result ≡ [] }
     {
@@ -73,7 +73,7 @@ impl OpenGroups {
         }
     }
 
-    /// Opens a group inside the others. Where memory is refused, it is dropped.
+    /// Adds a group inside the others. Drops it if the allocation fails.
     fn push(&mut self, group: Group) -> Result<(), AllocError>
         ensures { OnOk result (stack self.new ≡ opening group ∷ stack self.old) }
     {
@@ -90,7 +90,7 @@ impl OpenGroups {
         Ok(())
     }
 
-    /// Takes the innermost group.
+    /// Removes the innermost group and returns it.
     fn pop(&mut self) -> Option<Group>
         ensures { MatchOption result ((stack self.old ≡ []) × (stack self.new ≡ []))
             (λ group. stack self.old ≡ opening group ∷ stack self.new) }
@@ -113,7 +113,7 @@ impl OpenGroups {
         Some(innermost)
     }
 
-    /// Whether the innermost group is a list.
+    /// Returns whether the innermost group is a list.
     #[inline(always)]
     fn is_in_list(&self) -> bool
         ensures { result ≡ is_list (kinds (stack self.now)) }
@@ -124,7 +124,7 @@ impl OpenGroups {
         }
     }
 
-    /// Puts a member into the innermost group, which is a list.
+    /// Appends a member to the innermost group, which is a list.
     #[inline(always)]
     fn add_member(&mut self, member: CfgExpr) -> Result<(), AllocError>
         requires { is_list (kinds (stack self.old)) ≡ true }
@@ -137,7 +137,7 @@ impl OpenGroups {
     }
 }
 
-/// The group that a name opens, if it is an unmarked word of one.
+/// Returns the group that a name opens, if the name is an unmarked keyword of a group.
 #[inline(always)]
 fn group_named(alloc: Global, raw: bool, name: &str) -> Option<Group>
     ensures { MatchOption result (IsFalse (is_group_word (record { raw = raw; name = name.now })))
@@ -154,7 +154,7 @@ fn group_named(alloc: Global, raw: bool, name: &str) -> Option<Group>
     }
 }
 
-/// The identifier with this name.
+/// Creates the identifier with this name.
 #[inline(always)]
 fn ident(alloc: Global, raw: bool, name: &str) -> Result<Ident, AllocError>
     ensures { IfOk result (λ i. name_of i ≡ record { raw = raw; name = name.now }) }
@@ -165,7 +165,7 @@ fn ident(alloc: Global, raw: bool, name: &str) -> Result<Ident, AllocError>
     })
 }
 
-/// The literal that a name is, if it is an unmarked word of one.
+/// Returns the literal that a name is, if the name is an unmarked keyword of a literal.
 #[inline(always)]
 fn literal_named(raw: bool, name: &str) -> Option<CfgExpr>
     ensures { MatchOption result (IsFalse (is_literal_word (record { raw = raw; name = name.now })))
@@ -181,7 +181,7 @@ fn literal_named(raw: bool, name: &str) -> Option<CfgExpr>
     }
 }
 
-/// Reads what follows the identifier of a name or a pair: nothing, or `=` and a string.
+/// Parses what follows the identifier of a name or a pair: nothing, or `=` and a string.
 #[inline(always)]
 fn read_value<'a>(
     alloc: Global,
@@ -210,7 +210,7 @@ fn read_value<'a>(
     Ok(Cfg::KeyPair(key, value))
 }
 
-/// Reads the `(` after a group's word.
+/// Parses the `(` after the keyword of a group.
 #[inline(always)]
 fn open_group<'a>(
     reader: &mut Reader<'a>,
@@ -231,7 +231,7 @@ fn open_group<'a>(
     Ok(())
 }
 
-/// Goes on after a name: a group is open then, or an expression ended.
+/// Continues after a name: either a group is open then, or an expression has ended.
 #[inline(always)]
 fn behind_name<'a>(
     alloc: Global,
@@ -259,7 +259,7 @@ fn behind_name<'a>(
     Ok(Some(CfgExpr::Value(value)))
 }
 
-/// Reads the `)` of a list that has no members yet, or ends with a comma.
+/// Parses the `)` of a list that has no members yet, or whose members end with a comma.
 fn end_list(reader: &mut Reader<'_>, groups: &mut OpenGroups) -> Option<CfgExpr>
     ensures same_text { reader.new.ahead.text ≡ reader.old.ahead.text }
     ensures closed { IfSome result
@@ -283,7 +283,7 @@ fn end_list(reader: &mut Reader<'_>, groups: &mut OpenGroups) -> Option<CfgExpr>
     }
 }
 
-/// Reads a name alone, a pair, or a group's opening, or closes a list that ends here.
+/// Parses a name alone, a pair or the opening of a group, or closes a list that ends here.
 #[inline(always)]
 fn begin<'a>(
     alloc: Global,
@@ -308,7 +308,7 @@ fn begin<'a>(
     Err(refuse(reader, "identifier", "start of a cfg expression"))
 }
 
-/// The list of these members.
+/// Returns the list of these members.
 pub(crate) fn close_list(word: Listing, members: Vec<CfgExpr>) -> CfgExpr
     ensures { tree_of result ≡ list_tree (is_all word) (map tree_of members.items) }
 {
@@ -318,14 +318,14 @@ pub(crate) fn close_list(word: Listing, members: Vec<CfgExpr>) -> CfgExpr
     }
 }
 
-/// The negation of an expression, which is dropped where memory is refused.
+/// Returns the negation of an expression. Drops it if the allocation fails.
 pub(crate) fn negation(alloc: Global, negated: CfgExpr) -> Result<CfgExpr, AllocError>
     ensures { IfOk result (λ e. tree_of e ≡ Not (tree_of negated)) }
 {
     Ok(CfgExpr::Not(Box::new(alloc, negated)?))
 }
 
-/// Appends a member, which is dropped where memory is refused.
+/// Appends a member. Drops it if the allocation fails.
 pub(crate) fn push_member(members: &mut Vec<CfgExpr>, member: CfgExpr) -> Result<(), AllocError>
     ensures { OnOk result (map tree_of members.new.items ≡ map tree_of members.old.items ++ tree_of member ∷ []) }
 {
@@ -333,7 +333,7 @@ pub(crate) fn push_member(members: &mut Vec<CfgExpr>, member: CfgExpr) -> Result
     Ok(())
 }
 
-/// Members with one more after them.
+/// Returns the members with one more after them.
 fn with_member(mut members: Vec<CfgExpr>, member: CfgExpr) -> Result<Vec<CfgExpr>, AllocError>
     ensures { IfOk result (λ more. map tree_of more.items ≡ map tree_of members.items ++ tree_of member ∷ []) }
 {
@@ -341,7 +341,7 @@ fn with_member(mut members: Vec<CfgExpr>, member: CfgExpr) -> Result<Vec<CfgExpr
     Ok(members)
 }
 
-/// Takes the comma after a member of a list.
+/// Parses the comma after a member of a list, if there is one. Returns whether there is.
 #[inline(always)]
 fn eat_comma(reader: &mut Reader<'_>, groups: &OpenGroups) -> bool
     ensures same_text { reader.new.ahead.text ≡ reader.old.ahead.text }
@@ -354,7 +354,7 @@ fn eat_comma(reader: &mut Reader<'_>, groups: &OpenGroups) -> bool
     groups.is_in_list() && reader.eat(Punctuation::Comma)
 }
 
-/// Reads the `)` of a group, after its last member.
+/// Parses the `)` of a group, after its last member.
 #[inline(always)]
 fn close_group<'a>(
     alloc: Global,
@@ -385,7 +385,7 @@ fn close_group<'a>(
     }
 }
 
-/// Reads the expression that the tokens spell.
+/// Parses the tokens as an expression.
 pub(crate) fn read_expression<'a>(
     alloc: Global,
     reader: &mut Reader<'a>,
@@ -417,7 +417,7 @@ pub(crate) fn read_expression<'a>(
     }
 }
 
-/// Reads the name or the pair that the tokens spell.
+/// Parses the tokens as a name or a pair.
 pub(crate) fn read_cfg<'a>(alloc: Global, reader: &mut Reader<'a>) -> Result<Cfg, Refusal<'a>>
     ensures same_text { reader.new.ahead.text ≡ reader.old.ahead.text }
     ensures value { IfOk result

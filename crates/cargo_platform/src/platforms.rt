@@ -1,4 +1,4 @@
-//! The condition of a dependency, read from text, and whether it holds for a target.
+//! Parses the condition of a dependency, and evaluates it for a target.
 //!
 //! A condition is the name of a target or a `cfg(..)` expression. See "Platform specific dependencies" in the chapter
 //! "Specifying dependencies" of Cargo's reference, and "Configuration predicates" in the Rust reference's chapter on
@@ -27,25 +27,28 @@ use std::simd::prelude::*;
 use unicode::properties::{GeneralCategory, is_alphabetic};
 
 impl Platform {
-    /// Reads a condition.
+    /// Parses a condition.
     ///
-    /// A text that begins with `cfg(` and ends with `)` is the expression between the two, and where that is refused,
-    /// the error is the one of the text between. Every other text is the name of a target, of alphabetic characters,
-    /// numbers, `_`, `-` and `.`; nothing is trimmed, and the empty text is a name too. A text with any other character
-    /// is refused with `InvalidTarget`, which tells of a `(` where one stands anywhere in the text, and else of the
-    /// first such character. Alphabetic are the characters with that property of Unicode, and numbers those of the
-    /// general categories Nd, Nl and No.
+    /// A text that begins with `cfg(` and ends with `)` is the expression between the two. If that is rejected, the
+    /// error is about the text between them. Every other text is the name of a target, which consists of alphabetic
+    /// characters, numbers, `_`, `-` and `.`. Nothing is trimmed, and the empty text is a name too. Alphabetic
+    /// characters are those with that property of Unicode, and numbers are those of the general categories Nd, Nl and
+    /// No.
+    ///
+    /// Returns `ReadError::Parse` with `InvalidTarget` if a name has any other character. Its message names `(` if the
+    /// text has one anywhere, and else the first such character. Returns `ReadError::Memory` if an allocation fails.
     pub fn from_str(alloc: Global, s: &str) -> Result<Platform, ReadError>
-        // `Ok` comes only of what the text spells.
+        // `Ok` holds only what the text means under the grammar.
         ensures condition { IfOk result (λ p. IsConditionText s.now (condition_of p)) }
-        // The error is that of the text between `cfg(` and `)`, and else of the whole key.
+        // The error is that of the text between `cfg(` and `)`, or else that of the whole key.
         ensures fault { IfParse result (λ e. IsRefusedCondition s.now (orig_of e) (fault_in e)) }
         ensures span { IfParse result (λ e. IsRefusedConditionAt s.now (orig_of e) (fault_in e) (span_in e)) }
-        // Answers are well-formed.
+        // Results are well-formed.
         ensures well_formed { IfOk result (λ p. IsWellFormedCondition (condition_of p)) }
-        // `Parse` comes only of a text that spells nothing. So what spells something is read, if memory suffices.
+        // `Parse` is returned only for a text without a meaning. So every text that has a meaning is parsed if memory
+        // suffices.
         ensures refused { IfParse result (λ _. (c : Condition) → IsConditionText s.now c → ⊥) }
-        // What is well-formed reads back from its print.
+        // Whatever is well-formed is parsed back, unchanged, from its printed text.
         ensures reads_back { (c : Condition) → IsWellFormedCondition c → s.now ≡ print_condition c
             → IfOk result (λ p. condition_of p ≡ c) × IfParse result (λ _. ⊥) }
     {
@@ -69,10 +72,10 @@ impl Platform {
         }
     }
 
-    /// Whether the condition holds for a target with this name and these facts: a name where it is the target's name,
-    /// and an expression where it is true over the facts, whatever the name.
+    /// Returns whether the condition is true for a target with this name and these facts. A name is true if it is the
+    /// target's name, and an expression if it is true over the facts, whatever the name.
     pub fn matches(&self, name: &str, cfg: &[Cfg]) -> bool
-        // Truth is over the set of facts: order, repeats and marks play no part.
+        // Truth depends on the set of facts: their order, repetitions and raw marks play no part.
         ensures truth { result
             ≡ truth_of_condition name.now (fact_set (map value_of cfg.now)) (condition_of self.now) }
         ensures applies { IsTrue result
@@ -84,13 +87,14 @@ impl Platform {
         }
     }
 
-    /// Whether the condition holds for a target with this name and the facts of the holder, as `matches` answers, and
-    /// how often the holder was asked: for a name never, and for an expression as `CfgExpr::matches_counted` says.
+    /// Returns whether the condition is true for a target with this name and the facts of the holder, as `matches`
+    /// does, and the number of queries to the holder: none for a name, and for an expression as
+    /// `CfgExpr::matches_counted` says.
     pub fn matches_counted<F: Facts>(&self, name: &str, facts: &F) -> (bool, Asks)
-        // Truth is over the set of facts: order, repeats and marks play no part.
+        // Truth depends on the set of facts: their order, repetitions and raw marks play no part.
         ensures truth { result.0 ≡ truth_of_condition name.now (F.meant facts.now) (condition_of self.now) }
-        // A holder is asked once for each name and pair, from left to right, and for none after one that settles its
-        // group.
+        // The holder gets one query for each name and pair, from left to right, and none after a member that decides
+        // its group.
         ensures asks { result.1 ≡ min (asks_of_condition (F.meant facts.now) (condition_of self.now)) (2 ^ 128 - 1) }
     {
         match self {
@@ -101,16 +105,16 @@ impl Platform {
 }
 
 impl CfgExpr {
-    /// Whether `key` reads as a `cfg(..)` condition whose expression is true over the facts in `cfg`. It is false for
-    /// every other key: an expression that is not true, the name of a target, and a text that is refused. An
-    /// allocation failure is the only error, and is never taken for false.
+    /// Returns whether `key` is a `cfg(..)` condition whose expression is true over the facts in `cfg`. It is false for
+    /// every other key: an expression that is not true, the name of a target, and a text that is rejected. The only
+    /// error is that an allocation failed, which never counts as false.
     pub fn matches_key(alloc: Global, key: &str, cfg: &[Cfg]) -> Result<bool, AllocError>
-        // `true` comes only where the key spells a tree that is true over the facts.
+        // `true` is returned only if the key means an expression that is true over the facts.
         ensures yes { IfOk result
             (λ answer. IsTrue answer
             → (e : Tree) × IsConditionText key.now (Expression e)
             × IsTrue (truth (fact_set (map value_of cfg.now)) e)) }
-        // `false` comes only where it spells none.
+        // `false` is returned only if the key means no such expression.
         ensures otherwise { IfOk result
             (λ answer. answer ≡ false → (e : Tree) → IsConditionText key.now (Expression e)
             → truth (fact_set (map value_of cfg.now)) e ≡ false) }
@@ -124,24 +128,24 @@ impl CfgExpr {
     }
 }
 
-/// The text between `cfg(` and `)`, where a text begins and ends with these. It may spell no expression. Spaces before
-/// and behind count.
+/// Returns the text between `cfg(` and `)`, if the text begins and ends with these. It need not be an expression.
+/// Spaces outside of them are not skipped.
 pub fn inside_cfg(text: &str) -> Option<&str>
-    // The text between `cfg(` and `)`, or nothing where a text does not begin and end so.
+    // The text between `cfg(` and `)`, or nothing if the text does not begin and end so.
     ensures { MatchOption result (IsBare text.now) (λ inner. IsCfgOf text.now inner.now) }
 {
     text.strip_prefix("cfg(")?.strip_suffix(")")
 }
 
-/// The first character that no target name may hold.
+/// Returns the first character that no target name may contain.
 fn first_refused(name: &str) -> Option<char>
     ensures { MatchOption result (IsTargetName name.now) (λ c. IsFirstRefused name.now c) }
 {
     name.chars().find(|c| !is_target_char(*c))
 }
 
-/// Whether all bytes of the name are plain, as those of each target's name today are: then it is no `cfg(..)`, and no
-/// character is looked up.
+/// Returns whether all bytes of the name are plain, as those of every built-in target's name are. Such a name is not
+/// `cfg(..)`, and none of its characters has to be looked up.
 fn is_plain(name: &str) -> bool
     ensures { IsTrue result → IsTargetName name.now }
 {
@@ -162,7 +166,7 @@ fn is_plain(name: &str) -> bool
     true
 }
 
-/// Whether the next `LANES` bytes are plain.
+/// Returns whether the next `LANES` bytes are plain.
 #[inline(always)]
 fn are_plain(bytes: &[u8], at: usize) -> bool
     requires { at + LANES ≤ length bytes.now }
@@ -179,7 +183,7 @@ fn are_plain(bytes: &[u8], at: usize) -> bool
     others.to_bitmask() == 0
 }
 
-/// Whether the byte is `_`, `-`, `.`, an ASCII letter or an ASCII digit.
+/// Returns whether the byte is `_`, `-`, `.`, an ASCII letter or an ASCII digit.
 #[inline(always)]
 fn is_plain_byte(byte: u8) -> bool
     ensures { result ≡ is_plain_byte byte }
@@ -187,14 +191,14 @@ fn is_plain_byte(byte: u8) -> bool
     continues_identifier(byte) || byte == b'-' || byte == b'.'
 }
 
-/// Whether a target name may hold the character.
+/// Returns whether a target name may contain the character.
 fn is_target_char(c: char) -> bool
     ensures { result ≡ is_target_char c }
 {
     is_alphabetic(c) || is_number(c) || c == '_' || c == '-' || c == '.'
 }
 
-/// Whether the character is a number of any kind: a decimal digit, one that is a letter too, or another.
+/// Returns whether the character is a number of any kind: a decimal digit, a letter number, or another.
 fn is_number(c: char) -> bool
     ensures { result ≡ is_number_category (general_category c) }
 {
@@ -206,7 +210,7 @@ fn is_number(c: char) -> bool
     )
 }
 
-/// The error of a target name, whose first refused character is given.
+/// Creates the error for a target name with this first rejected character.
 #[cold]
 #[inline(never)]
 fn target_error(alloc: Global, name: &str, refused: char) -> Result<ParseError, AllocError>
@@ -222,8 +226,8 @@ fn target_error(alloc: Global, name: &str, refused: char) -> Result<ParseError, 
     ParseError::with_span(alloc, name, kind, Some(span))
 }
 
-/// Where a target name is refused, whose first refused character is given: at the end where it begins with `cfg(`, and
-/// else at that character.
+/// Returns the span of the fault in a target name with this first rejected character: the end if the name begins with
+/// `cfg(`, and else that character.
 fn target_span(name: &str, refused: char) -> Range<usize>
     requires { IsFirstRefused name.now refused }
     ensures { IsTargetSpan name.now result }
@@ -237,7 +241,7 @@ fn target_span(name: &str, refused: char) -> Range<usize>
     start..start + refused.len_utf8()
 }
 
-/// What is said of a target name, whose first refused character is given.
+/// Creates the message about a target name with this first rejected character.
 fn target_message(alloc: Global, name: &str, refused: char) -> Result<String, AllocError>
     requires { IsFirstRefused name.now refused }
     ensures { IfOk result (λ message. IsTargetMessage name.now (string_bytes message)) }

@@ -1,4 +1,4 @@
-//! The tokens of a text, each taken where it is wanted: what the parsers read from.
+//! Gives the parsers the tokens of a text, each cut off when it is needed.
 
 ghost use Rattle.std.specs.Prelude.{◌≡◌, ◌≤◌, ◌+◌, ◌*◌, length, [], ◌∷◌, IsTrue, IsFalse, IfSome, IfNone, IfErr, OnOk};
 ghost use Rattle.std.specs.Prelude.{MatchOption, false, Some as some};
@@ -23,16 +23,16 @@ use crate::tokens::{Spanned, Token, TokenFaultKind, token_at};
 use std::marker::Model;
 use std::ops::Range;
 
-/// A text, the place that was reached in it, and what is there. No space stands there. A token is cut off when it is
-/// taken: what begins one tells which it may be.
+/// A text, the position that was reached in it, and what is there, which is no space. A token is cut off when it is
+/// taken: its first character shows which token it may be.
 #[derive(Drop)]
 pub(crate) struct Reader<'a> {
     source: Source<'a>,
     place: usize,
     seen: Look,
-    /// How many bytes the text has, for spans.
+    /// The number of bytes in the text, for spans.
     length: usize,
-    /// Why no token begins at the place, where that was found.
+    /// Why no token begins at the position, if that is known.
     fault: Option<TokenFaultKind>,
 }
 
@@ -51,7 +51,7 @@ impl<'a> Model for Reader<'a> {
 }
 
 impl<'a> Reader<'a> {
-    /// A reader with the first item of the text ahead.
+    /// Creates a reader at the first item of the text.
     #[inline(always)]
     pub fn new(text: &'a str) -> Reader<'a>
         ensures text { result.ahead.text ≡ text.now }
@@ -69,7 +69,7 @@ impl<'a> Reader<'a> {
         }
     }
 
-    /// Takes the next token where it is this character.
+    /// Takes the next token if it is this character. Returns whether it is.
     #[inline(always)]
     pub fn eat(&mut self, wanted: Punctuation) -> bool
         ensures same_text { self.new.ahead.text ≡ self.old.ahead.text }
@@ -85,7 +85,7 @@ impl<'a> Reader<'a> {
         true
     }
 
-    /// Takes the next token where it is an identifier.
+    /// Takes the next token if it is an identifier.
     #[inline(always)]
     pub fn eat_name(&mut self) -> Option<(bool, &'a str)>
         ensures same_text { self.new.ahead.text ≡ self.old.ahead.text }
@@ -107,7 +107,7 @@ impl<'a> Reader<'a> {
         Some((false, name))
     }
 
-    /// The same where an `r` is next, which may begin a raw mark.
+    /// Takes the next token if it is an identifier, where the next character is an `r`, which may begin a raw mark.
     fn eat_name_with_r(&mut self) -> Option<(bool, &'a str)>
         requires { (t : Placed) → NextIs self.old.ahead (cut.Token t) → IsIdentifier t.token }
         ensures same_text { self.new.ahead.text ≡ self.old.ahead.text }
@@ -120,7 +120,7 @@ impl<'a> Reader<'a> {
         }
     }
 
-    /// Takes the next token where it is a string.
+    /// Takes the next token if it is a string.
     #[inline(always)]
     pub fn eat_string(&mut self) -> Option<&'a str>
         ensures same_text { self.new.ahead.text ≡ self.old.ahead.text }
@@ -142,8 +142,8 @@ impl<'a> Reader<'a> {
         Some(value)
     }
 
-    /// Takes the next token, whatever it is, with its span. Where none is next it gives the fault, which begins here,
-    /// or nothing at the end of the text.
+    /// Takes the next token, whatever it is, with its span. If no token begins here, it returns the fault, or nothing
+    /// at the end of the text.
     #[inline(never)]
     fn take(&mut self) -> Option<Result<Spanned<'a>, TokenFaultKind>>
         ensures same_text { self.new.ahead.text ≡ self.old.ahead.text }
@@ -173,7 +173,7 @@ impl<'a> Reader<'a> {
         }
     }
 
-    /// The text from what comes next on and its span, or nothing at the end.
+    /// Returns the text from the next token on and its span, or nothing at the end.
     #[inline(always)]
     pub fn rest(&self) -> Option<Rest<'a>>
         ensures rest { SeesRest self.now.ahead result }
@@ -188,7 +188,7 @@ impl<'a> Reader<'a> {
         }
     }
 
-    /// The empty span at the end of the text.
+    /// Returns the empty span at the end of the text.
     fn end_span(&self) -> Range<usize>
         ensures { result ≡ from_to (length self.now.ahead.text) (length self.now.ahead.text) }
     {
@@ -196,7 +196,7 @@ impl<'a> Reader<'a> {
         end..end
     }
 
-    /// The span of the lexical fault that begins here.
+    /// Returns the span of the lexical fault that begins here.
     fn fault_span(&self, kind: TokenFaultKind) -> Range<usize>
         requires { NextIs self.now.ahead (cut.Lexical kind self.now.ahead.place) }
         ensures { result ≡ span_of self.now.ahead.text false (cut.Lexical kind self.now.ahead.place) }
@@ -215,7 +215,7 @@ impl<'a> Reader<'a> {
         }
     }
 
-    /// The refusal of what was taken last, where nothing ended.
+    /// Returns the refusal of what was taken last, if nothing has ended there.
     #[inline(always)]
     fn refusal_of(
         &self,
@@ -236,7 +236,7 @@ impl<'a> Reader<'a> {
         }
     }
 
-    /// The looks that were made.
+    /// Returns the looks that were made.
     #[inline(always)]
     pub fn spend(self) -> Looks
         ensures looks { result ≡ self.entry.looks }
@@ -260,7 +260,7 @@ pub(crate) struct Rest<'a> {
     pub span: Range<usize>,
 }
 
-/// The raw mark and the name of an identifier.
+/// Returns the raw mark and the name of an identifier.
 fn name_of<'a>(token: Token<'a>) -> Option<(bool, &'a str)>
     ensures { MatchOption result (IsIdentifier (lexeme token.entry) → ⊥)
         (λ r. lexeme token.entry ≡ ident_token r.0 r.1.now) }
@@ -272,7 +272,7 @@ fn name_of<'a>(token: Token<'a>) -> Option<(bool, &'a str)>
     }
 }
 
-/// Whether a look gave this byte.
+/// Returns whether a look found this byte.
 #[inline(always)]
 fn is_byte(look: Look, byte: u8) -> bool
     ensures yes { IsTrue result → look ≡ Ascii byte }
@@ -284,7 +284,7 @@ fn is_byte(look: Look, byte: u8) -> bool
     }
 }
 
-/// A token that is one character.
+/// A token that consists of one character.
 #[derive(Clone, Copy)]
 pub(crate) enum Punctuation {
     LeftParen,
@@ -293,7 +293,7 @@ pub(crate) enum Punctuation {
     Equals,
 }
 
-/// The byte that it is written as.
+/// Returns the byte of the token.
 #[inline(always)]
 fn byte_of(wanted: Punctuation) -> u8
     ensures { written (lexeme_of wanted) ≡ result ∷ [] }
@@ -306,7 +306,7 @@ fn byte_of(wanted: Punctuation) -> u8
     }
 }
 
-/// The refusal of a token that does not fit.
+/// Returns the refusal of a token that is not allowed here.
 #[inline(always)]
 fn unexpected<'a>(expected: &'static str, taken: Spanned<'a>) -> Refusal<'a>
     ensures { refused_at result ≡ some (record {
@@ -321,7 +321,7 @@ fn unexpected<'a>(expected: &'static str, taken: Spanned<'a>) -> Refusal<'a>
     }
 }
 
-/// The refusal of what comes next, where nothing ended. The reader goes on after it.
+/// Returns the refusal of the next token, if nothing has ended there. The reader goes on after it.
 #[cold]
 #[inline(never)]
 pub(crate) fn refuse<'a>(
@@ -337,7 +337,7 @@ pub(crate) fn refuse<'a>(
     reader.refusal_of(taken, expected, at_end)
 }
 
-/// Refuses what is left after a whole value or expression.
+/// Rejects text that is left after a whole value or expression.
 #[inline(always)]
 pub(crate) fn expect_end<'a>(reader: &Reader<'a>) -> Result<(), Refusal<'a>>
     ensures end { OnOk result (NextIs reader.now.ahead Nothing) }

@@ -1,4 +1,4 @@
-//! Why a text is refused, from where a reader stops to the error that is answered.
+//! Why a text is rejected, from the point where a reader stops to the error that is returned.
 
 ghost use Rattle.std.specs.Prelude.{◌≡◌};
 
@@ -8,14 +8,14 @@ use crate::tokens::TokenFaultKind;
 use std::alloc::{AllocError, Global};
 use std::ops::Range;
 
-/// A text that no look was made at. Nobody but this module can read it.
+/// A text that was not looked at. Only this module can read it.
 #[derive(Clone, Copy)]
 pub(crate) struct Unread<'a> {
     text: &'a str,
 }
 
 impl<'a> Unread<'a> {
-    /// The text, shut.
+    /// Wraps the text, so that it can't be read.
     #[inline(always)]
     pub fn new(text: &'a str) -> Unread<'a>
         ensures { result.text.now ≡ text.now }
@@ -24,7 +24,7 @@ impl<'a> Unread<'a> {
     }
 }
 
-/// Why nothing was read: the fault and its span, or an allocation failure.
+/// Why nothing was parsed: the fault and its span, or an allocation failure.
 #[derive(Drop)]
 pub(crate) enum Refusal<'a> {
     Unexpected {
@@ -34,7 +34,7 @@ pub(crate) enum Refusal<'a> {
     },
     Incomplete(&'static str, Range<usize>),
     Lexical(TokenFaultKind, Range<usize>),
-    /// A whole expression ended, and this text is left.
+    /// A whole expression has ended, and this text is left.
     Unterminated(Unread<'a>, Range<usize>),
     Memory(AllocError),
 }
@@ -42,7 +42,8 @@ pub(crate) enum Refusal<'a> {
 impl<'a> Refusal<'a> {
     ghost use Rattle.cargo_platform.specs.Inside.Refusals.{Becomes};
 
-    /// The error of the text that is refused. It is made when the source was spent, so that no look comes after it.
+    /// Creates the error for the rejected text. It takes the looks of a spent source, so that no look can come after
+    /// it.
     pub fn into_error(self, alloc: Global, orig: &str, _spent: &Looks) -> ReadError
         ensures { Becomes self.entry orig.now result }
     {

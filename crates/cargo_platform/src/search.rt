@@ -1,7 +1,7 @@
-//! The search of a list that is in order.
+//! Searches a sorted list.
 //!
-//! The search knows what is looked for as `Sought` alone, whose one call counts each comparison by a type that the
-//! search can make no value of. A `Sorted` list can be searched, and read in no other way.
+//! The search sees what it looks for only as `Sought`, whose one method counts each comparison by a type that the
+//! search can't create a value of. A `Sorted` list can be searched, and read in no other way.
 
 ghost use Rattle.std.specs.Prelude.{◌≡◌, ℕ, ◌+◌, ◌-◌, ◌*◌, ◌^◌, ◌≤◌, length};
 ghost use Rattle.std.specs.declared.cmp.Ordering.{Ordering};
@@ -13,33 +13,33 @@ ghost use Rattle.cargo_platform.specs.Inside.Asking.{Counts};
 use crate::asking::Tally;
 use std::cmp::Ordering;
 
-/// What is looked for in a list that is in order.
+/// What to find in a sorted list.
 pub(crate) trait Sought<A, T: Tally> {
-    // The order of a member of the list and what is looked for.
+    // The order of a member of the list and the sought value.
     ghost order: { Self → A → Ordering };
 
-    /// The order of a member and what is looked for, for which they are compared once.
+    /// Compares a member and the sought value once, and returns their order.
     fn compare(&self, tally: &mut T, member: &A) -> Ordering
         ensures order { result ≡ order self.now member.now }
         ensures count { Counts 1 0 (T.asks tally.old) (T.asks tally.new) };
 }
 
-/// A list that can be searched, and read in no other way.
+/// A sorted list, which can be searched and read in no other way.
 #[derive(Drop)]
 pub(crate) struct Sorted<A> {
     members: Vec<A>,
 }
 
 impl<A> Sorted<A> {
-    /// The list of these members, which are in order.
+    /// Wraps these members, which are sorted.
     pub fn new(members: Vec<A>) -> Sorted<A>
         ensures { result.members ≡ members }
     {
         Sorted { members }
     }
 
-    /// Whether a member is what is looked for. There are at most as many comparisons as the logarithm to base 2 of the
-    /// number of members, rounded down, and one; of no members there are none.
+    /// Returns whether the list has the sought value. The number of comparisons is at most one more than the logarithm
+    /// to base 2 of the number of members, rounded down. There are none in an empty list.
     #[inline(always)]
     pub fn has<S: Sought<A, T>, T: Tally>(&self, sought: &S, tally: &mut T) -> bool
         requires { IsNonDecreasingBy (λ a. ordering_index (S.order sought.now a)) self.now.members.items }

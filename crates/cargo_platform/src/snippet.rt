@@ -1,4 +1,4 @@
-//! Two lines that show where a text is refused.
+//! Shows in two lines where a text is rejected.
 
 ghost use Rattle.std.specs.Prelude.{◌≡◌, ◌≤◌, ◌+◌, IfOk, length, string_bytes, Some, map};
 ghost use Rattle.std.specs.Prelude.{encode_utf8_all, min};
@@ -16,24 +16,24 @@ use std::alloc::{AllocError, Global};
 use std::ops::Range;
 use unicode::properties::GeneralCategory;
 
-/// A text of more characters is cut.
+/// A text with more characters than this is cut.
 const WIDTH: usize = 100;
 
-/// So many characters before a span are shown of a text that is cut, and so many of the span.
+/// How many characters before a span, and how many of the span, are shown of a text that is cut.
 const PART: usize = 40;
 
 impl ParseError {
-    /// Two lines for people, with a line end between them and none after: `orig`, and carets under the span of the
-    /// fault, one for each character and at least one, with a space and the print of the kind after. There are none
-    /// where the error has no span.
+    /// Returns two lines for people, with a line end between them and none at the end: `orig`, and carets under the
+    /// span of the fault. There is one caret for each character and at least one, with a space and the printed kind
+    /// after them. Returns `None` if the error has no span.
     ///
-    /// A character is shown as U+FFFD that is neither the space U+0020 nor in one of the general categories L, N, P and
-    /// S: so no text forges a line, and each character takes one column. Wide letters, and those that are written from
-    /// right to left, may still move the carets. Of a text with more than 100 characters up to 40 before the span are
-    /// shown, the first 40 of a longer span, and else 100 in all, with `..` at each side that is cut. A text that the
-    /// kind holds is shown and cut in the same way, from its start on.
+    /// A character is shown as U+FFFD if it is neither the space U+0020 nor in one of the general categories L, N, P
+    /// and S. So no text can forge a line, and each character takes one column. Wide letters, and those that are
+    /// written from right to left, may still move the carets. Of a text with more than 100 characters, the lines show
+    /// up to 40 before the span, the first 40 of a longer span, and 100 in all otherwise, with `..` at each side that
+    /// is cut. A text that the kind contains is shown in the same way, and cut from its start on.
     pub fn snippet(&self, alloc: Global) -> Result<Option<String>, AllocError>
-        // The text with carets under the span, cut, and U+FFFD for what is hidden.
+        // The text with carets under the span, cut, and with U+FFFD for hidden characters.
         ensures { IfOk result (λ s. IsSnippet (orig_of self.now) (span_in self.now) (fault_in self.now) s) }
     {
         match self.span() {
@@ -43,25 +43,25 @@ impl ParseError {
     }
 }
 
-/// The text as snippets show it, in whole: a character is shown as U+FFFD that is neither the space U+0020 nor in one
-/// of the general categories L, N, P and S. So a printed text forges no line.
+/// Returns the whole text as snippets show it: a character is shown as U+FFFD if it is neither the space U+0020 nor in
+/// one of the general categories L, N, P and S. So a printed text can't forge a line.
 pub fn shown_text(alloc: Global, text: &str) -> Result<String, AllocError>
-    // The text with U+FFFD for what is hidden.
+    // The text with U+FFFD for hidden characters.
     ensures { IfOk result (λ s. string_bytes s ≡ encode_utf8_all (map shown (chars text.now))) }
 {
     text.chars().map(shown).collect(alloc)
 }
 
-/// The text as snippets show one that is their fault's: as `shown_text`, and of more than 100 characters the first 100
-/// with `..` after.
+/// Returns a text as snippets show one that a fault contains: as `shown_text` does, and of more than 100 characters
+/// only the first 100 with `..` after them.
 pub fn shown_start(alloc: Global, text: &str) -> Result<String, AllocError>
-    // The text with U+FFFD for what is hidden, cut after 100 characters.
+    // The text with U+FFFD for hidden characters, cut after 100 characters.
     ensures { IfOk result (λ s. string_bytes s ≡ shown_line (chars text.now) 0 0) }
 {
     shown_line(alloc, text, size_for(text, 0), 0, 0)
 }
 
-/// The two lines of a text, or nothing where the span does not lie in it.
+/// Returns the two lines of a text, or nothing if the span is not within it.
 pub(crate) fn snippet_at(
     alloc: Global,
     text: &str,
@@ -80,7 +80,7 @@ pub(crate) fn snippet_at(
     Ok(Some(lines))
 }
 
-/// The two lines of a text with so many characters before the span, and so many in it.
+/// Returns the two lines of a text with `before` characters before the span and `inside` characters in it.
 fn lines(
     alloc: Global,
     text: &str,
@@ -100,14 +100,15 @@ fn lines(
     format!(in alloc; "{line}\n{margin}{spaces}{carets} {kind}")
 }
 
-/// How many characters the text has.
+/// Returns the number of characters in the text.
 fn count(text: &str) -> usize
     ensures { result ≡ length (chars text.now) }
 {
     text.chars().count()
 }
 
-/// How many characters the text has, counted up to 101 behind the start of a span: more of them change no cut.
+/// Returns the number of characters in the text, counted only up to 101 after the start of the span: more of them do
+/// not change where the text is cut.
 fn size_for(text: &str, before: usize) -> usize
     ensures { result ≡ min (before + 101) (length (chars text.now)) }
 {
@@ -117,7 +118,7 @@ fn size_for(text: &str, before: usize) -> usize
     }
 }
 
-/// The number of the first character that is shown.
+/// Returns the index of the first character that is shown.
 fn first_shown(size: usize, before: usize) -> usize
     ensures { result ≡ first_shown size before }
 {
@@ -128,7 +129,7 @@ fn first_shown(size: usize, before: usize) -> usize
     }
 }
 
-/// The number of the character after the last one that is shown.
+/// Returns the index after the last character that is shown.
 fn end_shown(size: usize, before: usize, inside: usize) -> usize
     ensures { result ≡ end_shown size before inside }
 {
@@ -141,7 +142,7 @@ fn end_shown(size: usize, before: usize, inside: usize) -> usize
     size.min(before.saturating_sub(PART).saturating_add(WIDTH))
 }
 
-/// How many carets there are.
+/// Returns the number of carets.
 fn caret_count(size: usize, before: usize, inside: usize) -> usize
     ensures { result ≡ caret_count size before inside }
 {
@@ -149,22 +150,22 @@ fn caret_count(size: usize, before: usize, inside: usize) -> usize
     if shown == 0 { 1 } else { shown }
 }
 
-/// The mark of a cut.
+/// Returns the mark of a cut.
 fn dots(is_cut: bool) -> &'static str
     ensures { result.now ≡ dots is_cut }
 {
     if is_cut { ".." } else { "" }
 }
 
-/// As many spaces as the mark of a cut has characters.
+/// Returns as many spaces as the mark of a cut has characters.
 fn margin(is_cut: bool) -> &'static str
     ensures { result.now ≡ margin is_cut }
 {
     if is_cut { "  " } else { "" }
 }
 
-/// The text as it is shown, with so many characters before the span and so many in it. Its size may be that of a part,
-/// if this is as large as the cut needs.
+/// Returns the text as it is shown, with `before` characters before the span and `inside` characters in it. `size` may
+/// be the size of a part that is large enough to decide the cut.
 fn shown_line(
     alloc: Global,
     text: &str,
@@ -189,7 +190,7 @@ fn shown_line(
     format!(in alloc; "{left}{part}{right}")
 }
 
-/// The kind with the text of the user in it as it is shown.
+/// Returns the kind, with the text of the user in it as it is shown.
 fn shown_kind(alloc: Global, kind: &ParseErrorKind) -> Result<ParseErrorKind, AllocError>
     ensures { IfOk result (λ k. fault_meant k ≡ shown_fault (fault_meant kind.now)) }
 {
@@ -210,7 +211,7 @@ fn shown_kind(alloc: Global, kind: &ParseErrorKind) -> Result<ParseErrorKind, Al
     })
 }
 
-/// The character that is shown for one.
+/// Returns the character that is shown for `c`.
 fn shown(c: char) -> char
     ensures { result ≡ shown c }
 {
@@ -224,7 +225,7 @@ fn shown(c: char) -> char
     }
 }
 
-/// Whether characters of the category are hidden.
+/// Returns whether characters of the category are hidden.
 fn is_hidden_category(category: GeneralCategory) -> bool
     ensures { result ≡ is_hidden_category category }
 {
@@ -234,7 +235,7 @@ fn is_hidden_category(category: GeneralCategory) -> bool
         || is_other_category(category)
 }
 
-/// Whether the category is Mn, Mc or Me.
+/// Returns whether the category is Mn, Mc or Me.
 fn is_mark_category(category: GeneralCategory) -> bool
     ensures { result ≡ is_mark_category category }
 {
@@ -246,7 +247,7 @@ fn is_mark_category(category: GeneralCategory) -> bool
     )
 }
 
-/// Whether the category is Zs, Zl or Zp.
+/// Returns whether the category is Zs, Zl or Zp.
 fn is_separator_category(category: GeneralCategory) -> bool
     ensures { result ≡ is_separator_category category }
 {
@@ -258,14 +259,14 @@ fn is_separator_category(category: GeneralCategory) -> bool
     )
 }
 
-/// Whether the category is Cc or Cf.
+/// Returns whether the category is Cc or Cf.
 fn is_control_category(category: GeneralCategory) -> bool
     ensures { result ≡ is_control_category category }
 {
     matches!(category, GeneralCategory::Control | GeneralCategory::Format)
 }
 
-/// Whether the category is Cs, Co or Cn.
+/// Returns whether the category is Cs, Co or Cn.
 fn is_other_category(category: GeneralCategory) -> bool
     ensures { result ≡ is_other_category category }
 {

@@ -1,11 +1,11 @@
-//! The characters of a text, which are seen by looks alone.
+//! The characters of a text, which can be seen by counted looks alone.
 //!
-//! `Source` keeps its text to itself, and counts what is examined. A look asks what is at one place, a character or the
-//! end of the text, and counts one. A scan counts each byte that it compares: all lanes of a block of bytes that are
-//! compared at once, and one for any other byte or the end. `spend` gives the count. A call hands on what ended it, so
-//! that nobody need look there again. A name or a value is handed out by the scan that went over it, and no other text
-//! is, but by `rest_from`: that was not looked at, and can't be read before the source is spent. Uncounted is
-//! `Tokenizer::rest` alone, which tells what was not looked at.
+//! `Source` keeps its text private, and counts what is examined. A look asks what is at one position, a character or
+//! the end of the text, and counts one. A scan counts each byte that it compares: all lanes of a block of bytes that
+//! are compared at once, and one for any other byte or the end. `spend` returns the count. A call also returns what
+//! ended it, so that nobody has to look there again. A name or a value is returned by the scan that went over it. The
+//! only other text is returned by `rest_from`: nobody has looked at it, and it can't be read before the source is
+//! spent. `Tokenizer::rest` is the only call that reads without counting, since it returns what was not looked at.
 
 ghost use Rattle.std.specs.Prelude.{◌≡◌, ◌≢◌, ℕ, ◌+◌, ◌-◌, ◌^◌, ◌<◌, ◌≤◌, true, false, length, drop, slice_index};
 ghost use Rattle.std.specs.Prelude.{slice_range, IfSome, IfNone, MatchOption};
@@ -23,7 +23,7 @@ use crate::refusal::Unread;
 use std::marker::Model;
 use std::simd::prelude::*;
 
-/// How many looks a source was asked for. Only a source that is spent makes one.
+/// The number of looks at a source. Only spending a source creates one.
 #[derive(Drop)]
 pub struct Looks {
     count: usize,
@@ -38,7 +38,7 @@ impl Model for Looks {
 }
 
 impl Looks {
-    /// The number of looks.
+    /// Returns the number of looks.
     pub fn count(&self) -> u128
         ensures { result ≡ self.now }
     {
@@ -46,7 +46,7 @@ impl Looks {
     }
 }
 
-/// What a look gives: the end of the text, or a character.
+/// What a look finds: the end of the text, or a character.
 #[derive(Clone, Copy)]
 pub(crate) enum Look {
     End,
@@ -56,7 +56,7 @@ pub(crate) enum Look {
     Wide(char),
 }
 
-/// The character that a look gave, unless it was the end.
+/// Returns the character that a look found, unless it found the end.
 #[inline(always)]
 pub(crate) fn character_of(look: Look) -> Option<char>
     ensures { result ≡ character_of look }
@@ -76,7 +76,7 @@ pub(crate) struct Source<'a> {
 }
 
 impl<'a> Source<'a> {
-    /// A text that was not looked at yet.
+    /// Wraps a text that was not looked at yet.
     pub fn new(text: &'a str) -> Source<'a>
         ensures text { result.text.now ≡ text.now }
         ensures looks { result.looks ≡ 0 }
@@ -84,7 +84,7 @@ impl<'a> Source<'a> {
         Source { text, looks: 0 }
     }
 
-    /// What is at a byte place.
+    /// Returns what is at a byte position. Counts one look.
     #[inline(always)]
     pub fn look(&mut self, at: usize) -> Look
         requires { IsCharBoundary self.old.text.now at }
@@ -97,8 +97,8 @@ impl<'a> Source<'a> {
         character_at(self.text, at)
     }
 
-    /// The first place from `from` on with no space, and what is there. `first` is what a look at `from` gave. Behind a
-    /// space what a scan compares is counted, and a look at the place.
+    /// Returns the first position from `from` on that has no space, and what is there. `first` is what a look at `from`
+    /// found. If there is a space, the bytes that the scan compares are counted, and a look at the position.
     #[inline(always)]
     pub fn past_spaces(&mut self, from: usize, first: Look) -> (usize, Look)
         requires begin { IsCharBoundary self.old.text.now from }
@@ -124,9 +124,9 @@ impl<'a> Source<'a> {
         (end, seen)
     }
 
-    /// The name that begins at a place, where it ends, and what is there. `second` is what a look behind its first
-    /// character gave. Where the name goes on there, what a scan of its further characters compares is counted, and a
-    /// look at its end.
+    /// Returns the name that begins at `start`, the position where it ends, and what is there. `second` is what a look
+    /// after its first character found. If the name goes on there, the bytes that the scan of its further characters
+    /// compares are counted, and a look at its end.
     #[inline(always)]
     pub fn name(&mut self, start: usize, second: Look) -> (&'a str, usize, Look)
         requires begin { IsCharBoundary self.old.text.now start }
@@ -150,8 +150,8 @@ impl<'a> Source<'a> {
         (&text[start..end], end, seen)
     }
 
-    /// The first place from `from` on with no character of an identifier, and what is there. `first` is what a look at
-    /// `from` gave.
+    /// Returns the first position from `from` on that has no character of an identifier, and what is there. `first` is
+    /// what a look at `from` found.
     #[inline(always)]
     fn past_identifier(&mut self, from: usize, first: Look) -> (usize, Look)
         requires begin { IsCharBoundary self.old.text.now from }
@@ -178,8 +178,8 @@ impl<'a> Source<'a> {
         (end, seen)
     }
 
-    /// The text from a place up to the first quote, and the place of that. What a scan up to it compares is counted,
-    /// or up to the end of the text.
+    /// Returns the text from `from` up to the first quote, and the position of the quote. The bytes that the scan
+    /// compares are counted, up to the quote or the end of the text.
     #[inline(always)]
     pub fn value(&mut self, from: usize) -> Option<(&'a str, usize)>
         requires { IsCharBoundary self.old.text.now from }
@@ -208,7 +208,7 @@ impl<'a> Source<'a> {
         }
     }
 
-    /// The text from a byte place on, shut.
+    /// Returns the text from a byte position on, in a form that can't be read.
     #[inline(always)]
     pub fn rest_from(&self, at: usize) -> Unread<'a>
         requires { IsCharBoundary self.now.text.now at }
@@ -218,7 +218,7 @@ impl<'a> Source<'a> {
         Unread::new(&text[at..])
     }
 
-    /// The looks that were made.
+    /// Returns the looks that were made.
     pub fn spend(self) -> Looks
         ensures { result ≡ self.entry.looks }
     {
@@ -226,7 +226,7 @@ impl<'a> Source<'a> {
         Looks { count: looks }
     }
 
-    /// Counts further looks, up to the greatest count.
+    /// Adds looks, up to the greatest count.
     #[inline(always)]
     fn add_looks(&mut self, looks: usize)
         ensures same { self.new.text ≡ self.old.text }
@@ -239,7 +239,7 @@ impl<'a> Source<'a> {
     }
 }
 
-/// What is at a byte place.
+/// Returns what is at a byte position.
 #[inline(always)]
 fn character_at(text: &str, at: usize) -> Look
     requires { IsCharBoundary text.now at }
@@ -256,7 +256,7 @@ fn character_at(text: &str, at: usize) -> Look
     Look::Wide(wide_char_at(text, at))
 }
 
-/// The character at a byte place, by decoding it.
+/// Decodes the character at a byte position.
 #[cold]
 #[inline(never)]
 fn wide_char_at(text: &str, at: usize) -> char
@@ -270,7 +270,8 @@ fn wide_char_at(text: &str, at: usize) -> char
     c
 }
 
-/// The first place from `from` on with no space. Each byte up to that place is compared, and what is there.
+/// Returns the first position from `from` on that has no space. Compares each byte up to that position, and the one
+/// there.
 #[inline(always)]
 fn spaces_end(text: &str, from: usize) -> usize
     requires { IsCharBoundary text.now from }
@@ -288,7 +289,7 @@ fn spaces_end(text: &str, from: usize) -> usize
     at
 }
 
-/// The first place from `from` on with no character of an identifier, and how many bytes were compared to find it.
+/// Returns the first position from `from` on that has no character of an identifier, and the number of bytes compared.
 #[inline(always)]
 fn identifier_end(text: &str, from: usize) -> (usize, usize)
     requires { IsCharBoundary text.now from }
@@ -314,7 +315,7 @@ fn identifier_end(text: &str, from: usize) -> (usize, usize)
     (at, at - from + 1)
 }
 
-/// The place of the first quote from `from` on, or else the end, and how many bytes were compared to find it.
+/// Returns the position of the first quote from `from` on, or else the end, and the number of bytes compared.
 #[inline(always)]
 fn value_end(text: &str, from: usize) -> (usize, usize)
     requires { IsCharBoundary text.now from }
@@ -328,7 +329,7 @@ fn value_end(text: &str, from: usize) -> (usize, usize)
     quote_from(text.as_bytes(), from)
 }
 
-/// The place of the first quote from `from` on, or else the end, and how many bytes were compared to find it.
+/// Returns the position of the first quote from `from` on, or else the end, and the number of bytes compared.
 #[inline(always)]
 fn quote_from(bytes: &[u8], from: usize) -> (usize, usize)
     requires { from ≤ length bytes.now }
@@ -351,7 +352,7 @@ fn quote_from(bytes: &[u8], from: usize) -> (usize, usize)
     (at, at - from + 1)
 }
 
-/// How many of the next `LANES` bytes come before the first quote, if one is among them.
+/// Returns how many of the next `LANES` bytes come before the first quote, if there is a quote among them.
 #[inline(always)]
 fn quote_in_block(bytes: &[u8], at: usize) -> Option<usize>
     requires { at + LANES ≤ length bytes.now }

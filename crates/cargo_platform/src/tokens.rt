@@ -1,9 +1,9 @@
-//! The tokens of a condition, with their places in the text.
+//! Cuts the text of a condition into tokens, with their positions.
 //!
 //! Between tokens only the space U+0020 is skipped. An identifier is one `_` or ASCII letter and all such characters
 //! and ASCII digits that follow it; `r#` directly before it marks it as raw. A string runs from `"` to the next `"`,
-//! with no escapes. Where such conditions stand: "Platform specific dependencies" in Cargo's reference, and
-//! "Conditional compilation" in the Rust reference.
+//! without escapes. See "Platform specific dependencies" in Cargo's reference, and "Conditional compilation" in the
+//! Rust reference.
 
 ghost use Rattle.std.specs.Prelude.{◌≡◌, ◌≢◌, ◌+◌, ◌*◌, ◌≤◌, length, drop, slice_index, IfOk, IfErr, OnOk};
 ghost use Rattle.std.specs.Prelude.{MatchOption, true, false};
@@ -20,14 +20,14 @@ pub use crate::source::Looks;
 use crate::source::{Look, Source, character_of};
 use std::marker::Model;
 
-/// A token. Names and values are the bytes of the text that they were written by; equality looks at all parts.
+/// A token. Names and values borrow the bytes of the text. Equality compares all parts.
 #[derive(Clone, Copy, Debug, PartialEq, Eq)]
 pub enum Token<'a> {
     /// `(`
     LeftParen,
     /// `)`
     RightParen,
-    /// Whether the raw mark `r#` stands before it, and its name without the mark.
+    /// An identifier: whether the raw mark `r#` is before it, and its name without the mark.
     Ident(bool, &'a str),
     /// `,`
     Comma,
@@ -38,9 +38,9 @@ pub enum Token<'a> {
 }
 
 impl<'a> Token<'a> {
-    /// What the token is called in a fault: its character in backquotes, "an identifier" or "a string".
+    /// Returns the class of the token, as faults name it: its character in backquotes, "an identifier" or "a string".
     pub fn classify(&self) -> &'static str
-        // What faults call the token.
+        // The class by which faults name the token.
         ensures { result.now ≡ called (lexeme self.now) }
     {
         match self {
@@ -54,8 +54,8 @@ impl<'a> Token<'a> {
     }
 }
 
-/// A token, and the places in bytes at which its written form begins and ends. The written form has the raw mark and
-/// the quotes; `end` is the place after it.
+/// A token, and the byte positions at which its written form begins and ends. The written form includes the raw mark
+/// and the quotes; `end` is the position after it.
 #[derive(Clone, Copy, Debug, PartialEq, Eq)]
 pub struct Spanned<'a> {
     /// The token.
@@ -66,18 +66,18 @@ pub struct Spanned<'a> {
     pub end: usize,
 }
 
-/// Why no token begins at a place.
+/// Why no token begins at a position.
 #[derive(Clone, Copy, Debug, PartialEq, Eq)]
 pub enum TokenFaultKind {
-    /// A `"` that no second `"` follows.
+    /// A `"` that no second `"` closes.
     UnterminatedString,
-    /// A character that begins no token, or that stands after `r#` and is no identifier start.
+    /// A character that no token begins with, or one after `r#` that no identifier begins with.
     UnexpectedChar(char),
     /// `r#` at the end of the text.
     MissingIdentifier,
 }
 
-/// A fault, and the place in bytes at which the faulty piece begins: at the `r` of a mark, at the first quote.
+/// A fault, and the byte position at which the faulty piece begins: the `r` of a mark, or the first quote.
 #[derive(Clone, Copy, Debug, PartialEq, Eq)]
 pub struct TokenFault {
     /// Why no token begins there.
@@ -86,12 +86,13 @@ pub struct TokenFault {
     pub at: usize,
 }
 
-/// The tokens of a text in order, then the fault of what is left, if there is one, and then `None` for good.
+/// An iterator over the tokens of a text in order. If text is left then, the next item is its fault. After that it
+/// returns only `None`.
 #[derive(Drop)]
 pub struct Tokenizer<'a> {
     pub(crate) source: Source<'a>,
     pub(crate) place: usize,
-    /// What is at the place, where that was looked at.
+    /// What is at the position, if it was looked at.
     seen: Option<Look>,
     failed: bool,
 }
@@ -114,7 +115,7 @@ impl<'a> Model for Tokenizer<'a> {
 }
 
 impl<'a> Tokenizer<'a> {
-    /// A tokenizer that stands at the start of the text.
+    /// Creates a tokenizer at the start of the text.
     pub fn new(text: &'a str) -> Tokenizer<'a>
         ensures { result ≡ record { text = text.now; place = 0; failed = false; looks = 0 } }
     {
@@ -133,10 +134,10 @@ impl<'a> Iterator for Tokenizer<'a> {
 
     type Item = Result<Spanned<'a>, TokenFault>;
 
-    // Each call is a step of the cut (`gives`): the next token with its span, the tail's fault once, or nothing. Spans
-    // begin and end at characters (`begins`, `reached`), and name and value are bytes inside. Until a fault, the `n`
-    // characters before the place took `n + 1` to `9n + 1` looks (`at_least`, `at_most`). One call takes at most `9n +
-    // 1`, with `n` characters left (`at_most_ever`, `call`, `call_ever`).
+    // Each call is a step of the cut (`gives`): it returns the next token with its span, the tail's fault once, or
+    // nothing. Spans begin and end between characters (`begins`, `reached`), and name and value are bytes inside. Until
+    // a fault, the `n` characters before the position took `n + 1` to `9n + 1` looks (`at_least`, `at_most`). One call
+    // takes at most `9n + 1` looks, with `n` characters left (`at_most_ever`, `call`, `call_ever`).
     ghost next_gives = { NextCall };
 
     // The calls come to an end.
@@ -169,7 +170,8 @@ impl<'a> Iterator for Tokenizer<'a> {
     }
 }
 
-/// The first place from `from` on with no space, and what is there. `seen` is what is at `from`, if that was looked at.
+/// Returns the first position from `from` on that has no space, and what is there. `seen` is what is at `from`, if that
+/// was looked at.
 #[inline(always)]
 fn first_after_spaces(source: &mut Source<'_>, from: usize, seen: Option<Look>) -> (usize, Look)
     requires begin { IsCharBoundary source.old.text.now from }
@@ -186,7 +188,7 @@ fn first_after_spaces(source: &mut Source<'_>, from: usize, seen: Option<Look>) 
     source.past_spaces(from, first)
 }
 
-/// What is at a place: what was seen there before, or what a look gives.
+/// Returns what is at a position: what was seen there before, or what a look finds.
 #[inline(always)]
 fn seen_or_look(source: &mut Source<'_>, at: usize, seen: Option<Look>) -> Look
     requires boundary { IsCharBoundary source.old.text.now at }
@@ -201,7 +203,7 @@ fn seen_or_look(source: &mut Source<'_>, at: usize, seen: Option<Look>) -> Look
     }
 }
 
-/// A token, where it ends, and what is there.
+/// A token, the position where it ends, and what is there.
 #[derive(Clone, Copy)]
 pub(crate) struct Cut<'a> {
     pub token: Token<'a>,
@@ -209,7 +211,7 @@ pub(crate) struct Cut<'a> {
     pub seen: Look,
 }
 
-/// The token that begins with this character at a place.
+/// Cuts off the token that begins with this character at a position.
 #[inline(always)]
 pub(crate) fn token_at<'a>(
     source: &mut Source<'a>,
@@ -246,7 +248,7 @@ pub(crate) fn token_at<'a>(
     }
 }
 
-/// The token of one character that stands at a place.
+/// Cuts off the token of one character at a position.
 #[inline(always)]
 fn mark_at<'a>(source: &mut Source<'a>, start: usize, token: Token<'a>) -> Cut<'a>
     requires stands { IsTokenAt source.old.text.now (lexeme token) start (start + 1) }
@@ -263,7 +265,7 @@ fn mark_at<'a>(source: &mut Source<'a>, start: usize, token: Token<'a>) -> Cut<'
     }
 }
 
-/// The string whose first quote stands at a place.
+/// Cuts off the string whose first quote is at a position.
 #[inline(always)]
 fn string_at<'a>(source: &mut Source<'a>, start: usize) -> Result<Cut<'a>, TokenFaultKind>
     requires begin { IsCharBoundary source.old.text.now start }
@@ -281,7 +283,7 @@ fn string_at<'a>(source: &mut Source<'a>, start: usize) -> Result<Cut<'a>, Token
     }
 }
 
-/// The string between the quotes at two places.
+/// Cuts off the string between the quotes at two positions.
 #[inline(always)]
 fn string_between<'a>(
     source: &mut Source<'a>,
@@ -303,7 +305,7 @@ fn string_between<'a>(
     }
 }
 
-/// The unmarked identifier that begins at a place. `second` is what is after its first character.
+/// Cuts off the unmarked identifier that begins at a position. `second` is what is after its first character.
 #[inline(always)]
 fn identifier_at<'a>(source: &mut Source<'a>, start: usize, second: Look) -> Cut<'a>
     requires begin { IsCharBoundary source.old.text.now start }
@@ -323,7 +325,7 @@ fn identifier_at<'a>(source: &mut Source<'a>, start: usize, second: Look) -> Cut
     }
 }
 
-/// The raw identifier whose `r#` stands at a place.
+/// Cuts off the raw identifier whose `r#` is at a position.
 #[inline(always)]
 fn marked_at<'a>(source: &mut Source<'a>, start: usize) -> Result<Cut<'a>, TokenFaultKind>
     requires begin { IsCharBoundary source.old.text.now start }

@@ -1,4 +1,4 @@
-//! Warnings on conditions that are read without a fault, but do not select dependencies as their writer may expect.
+//! Warns about conditions that are valid, but may not select dependencies as their author expects.
 
 ghost use Rattle.std.specs.Prelude.{◌≡◌, ◌+◌, ◌++◌, true, List, ℕ, IfOk, OnOk, OnErr, map, flat_map, string_bytes};
 ghost use Rattle.cargo_platform.specs.Trees.{CfgValue, name_of, value_of, tree_of, trees_of, condition_of};
@@ -19,16 +19,16 @@ use std::slice;
 impl Platform {
     /// Appends a warning for each name or pair of the expression that is not supported for selecting dependencies, in
     /// their order from left to right: the names `test`, `debug_assertions` and `proc_macro`, and pairs with the key
-    /// `feature`, marked as raw or not. The name of a target gives none. See "Platform specific dependencies" in
-    /// Cargo's reference.
+    /// `feature`, marked as raw or not. There are none for the name of a target. See "Platform specific dependencies"
+    /// in Cargo's reference.
     ///
-    /// It refuses only where memory is refused, and the list then holds what it held.
+    /// Fails only if an allocation fails. The list is unchanged then.
     pub fn check_cfg_attributes(
         &self,
         alloc: Global,
         warnings: &mut Vec<String>,
     ) -> Result<(), AllocError>
-        // The stated warnings are added in their order, and on failure none.
+        // The warnings of the definition are appended in order, and none on failure.
         ensures ok { OnOk result
             (texts warnings.new ≡ texts warnings.old ++ attribute_warnings (condition_of self.now)) }
         ensures err { OnErr result (texts warnings.new ≡ texts warnings.old) }
@@ -37,18 +37,18 @@ impl Platform {
     }
 
     /// Appends a warning for each name or pair of the expression whose name or key is `true` or `false` without the raw
-    /// mark, in their order from left to right. Only a tree that is made by hand has such a value: the readers refuse
-    /// the words as keys, and read them alone as literals. The name of a target gives none. `path` names the manifest,
-    /// and stands in each warning as it is given.
+    /// mark, in their order from left to right. Only a tree that is built by hand has such a value: the parsers reject
+    /// the words as keys, and parse them alone as literals. There are none for the name of a target. `path` names the
+    /// manifest, and is copied unchanged into each warning.
     ///
-    /// It refuses only where memory is refused, and the list then holds what it held.
+    /// Fails only if an allocation fails. The list is unchanged then.
     pub fn check_cfg_keywords(
         &self,
         alloc: Global,
         warnings: &mut Vec<String>,
         path: &str,
     ) -> Result<(), AllocError>
-        // The stated warnings are added in their order, and on failure none.
+        // The warnings of the definition are appended in order, and none on failure.
         ensures ok { OnOk result
             (texts warnings.new ≡ texts warnings.old ++ keyword_warnings path.now (condition_of self.now)) }
         ensures err { OnErr result (texts warnings.new ≡ texts warnings.old) }
@@ -57,19 +57,19 @@ impl Platform {
     }
 }
 
-/// A kind of warning on single values.
+/// A kind of warning about single values.
 trait Lint {
-    // The text of the warning on a value, none or one.
+    // The text of the warning about a value, or nothing.
     ghost warning: { Self → CfgValue → List (List ℕ) };
 
-    /// Appends the warning on a value, if it gets one.
+    /// Appends the warning about a value, if there is one.
     fn check(&self, alloc: Global, c: &Cfg, warnings: &mut Vec<String>) -> Result<(), AllocError>
         ensures ok { OnOk result
             (texts warnings.new ≡ texts warnings.old ++ warning self.now (value_of c.now)) }
         ensures err { OnErr result (texts warnings.new ≡ texts warnings.old) };
 }
 
-/// Names and keys that are not supported for selecting dependencies.
+/// The lint for names and keys that are not supported for selecting dependencies.
 #[derive(Drop)]
 struct Attributes;
 
@@ -90,14 +90,14 @@ impl Lint for Attributes {
     }
 }
 
-/// Whether no target sets the name.
+/// Returns whether no target sets the name.
 fn is_unsupported(name: &Ident) -> bool
     ensures { result ≡ is_unsupported_name (name_of name.now) }
 {
     matches!(name.as_str(), "test" | "debug_assertions" | "proc_macro")
 }
 
-/// The warning on a name that no target sets.
+/// Creates the warning about a name that no target sets.
 fn name_text(alloc: Global, name: &Ident) -> Result<String, AllocError>
     ensures { IfOk result (λ s. string_bytes s ≡ unsupported_name (name_of name.now)) }
 {
@@ -108,7 +108,7 @@ fn name_text(alloc: Global, name: &Ident) -> Result<String, AllocError>
     )
 }
 
-/// The warning on the key `feature`.
+/// Creates the warning about the key `feature`.
 fn feature_text(alloc: Global) -> Result<String, AllocError>
     ensures { IfOk result (λ s. string_bytes s ≡ unsupported_feature) }
 {
@@ -120,7 +120,7 @@ fn feature_text(alloc: Global) -> Result<String, AllocError>
     )
 }
 
-/// Keywords in the place of an identifier, in the manifest at a path.
+/// The lint for keywords in place of an identifier, in the manifest at a path.
 #[derive(Drop)]
 struct Keywords<'a>(&'a str);
 
@@ -138,14 +138,14 @@ impl<'a> Lint for Keywords<'a> {
     }
 }
 
-/// Whether the name is an unmarked `true` or `false`.
+/// Returns whether the name is an unmarked `true` or `false`.
 fn is_keyword(name: &Ident) -> bool
     ensures { result ≡ is_literal_word (name_of name.now) }
 {
     !name.raw && matches!(name.as_str(), "true" | "false")
 }
 
-/// The warning on a keyword in the place of an identifier.
+/// Creates the warning about a keyword in place of an identifier.
 fn keyword_text(alloc: Global, path: &str, c: &Cfg, word: &str) -> Result<String, AllocError>
     ensures { IfOk result (λ s. string_bytes s ≡ keyword_warning path.now (value_of c.now) word.now) }
 {
@@ -158,7 +158,7 @@ fn keyword_text(alloc: Global, path: &str, c: &Cfg, word: &str) -> Result<String
     )
 }
 
-/// Appends all warnings of a kind, or takes back those that were appended before memory was refused.
+/// Appends all warnings of a kind, or removes those that were appended before an allocation failed.
 #[tactic(auto, using(crate::proofs::WarningWalks::cut_back))]
 fn warn<L: Lint>(
     platform: &Platform,
@@ -182,8 +182,8 @@ fn warn<L: Lint>(
     result
 }
 
-/// The members of a group; that of a negation is what it negates.
-// Stands apart, so that the walk compares its way to a value and takes no jump through a table.
+/// Returns the members of a group. The only member of a negation is the negated expression.
+// This is a function of its own, so that the walk compares its way to a value and does not jump through a table.
 #[inline(never)]
 fn opened(e: &CfgExpr) -> &[CfgExpr]
     ensures values { is_group (tree_of e.now) ≡ true
@@ -193,7 +193,7 @@ fn opened(e: &CfgExpr) -> &[CfgExpr]
     members_of(e).unwrap_or(&[])
 }
 
-/// Appends the warnings on the values of an expression, as far as memory is granted.
+/// Appends the warnings about the values of an expression, until an allocation fails.
 fn walk<L: Lint>(
     e: &CfgExpr,
     alloc: Global,
@@ -204,8 +204,8 @@ fn walk<L: Lint>(
         (texts warnings.new ≡ texts warnings.old ++ flat_map (L.warning lint.now) (values (tree_of e.now))) }
     ensures err { OnErr result (IsLonger (texts warnings.new) (texts warnings.old)) }
 {
-    // What is left of the group that was opened last, of one around it, and of those around these. Most conditions
-    // have no more than two, and so take no memory here.
+    // The members that are left of the group that was opened last, of one around it, and of those around these. Most
+    // conditions have no more than two, and so need no memory here.
     let mut members = slice::from_ref(e);
     let mut around: &[CfgExpr] = &[];
     let mut outer: Vec<&[CfgExpr]> = Vec::new(alloc);

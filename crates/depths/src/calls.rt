@@ -38,6 +38,7 @@ pub enum Call {
 }
 
 impl Call {
+    /// Returns the name of the call in the output.
     pub fn name(self) -> &'static str {
         match self {
             Call::Read => "from_str",
@@ -71,6 +72,7 @@ pub struct Nest {
 }
 
 impl Nest {
+    /// Returns the nest of this form with `levels` levels.
     pub fn new(alloc: Global, form: Form, levels: u32) -> Result<Nest, AllocError> {
         let open_text = open_text(alloc, form, levels, LEAF)?;
         let platform = condition(alloc, form, levels, LEAF)?;

@@ -56,6 +56,7 @@ impl From<Undone> for Told {
 }
 
 impl Place {
+    /// Returns how the output names the place.
     pub fn name(self) -> &'static str {
         match self {
             Place::Scope => "at the end of a scope",
@@ -162,7 +163,7 @@ pub fn is_let_go(
     }
 }
 
-/// Copies a condition until memory is refused, and drops the copies, including the part of one that was made by then.
+/// Copies a condition until an allocation fails, and drops the copies, including the part of one that was made by then.
 /// Returns the number of complete copies.
 pub fn copies(alloc: Global, shape: Shape, levels: usize) -> Result<usize, AllocError> {
     let original = shape.made(alloc, levels)?;

@@ -135,7 +135,7 @@ fn drop_again(
     Ok(are_right)
 }
 
-/// Copies a nest of the shape until memory is refused.
+/// Copies a nest of the shape until an allocation fails.
 fn copy_until_refused(
     rt: &(impl Print + AllocGlobal),
     shape: Shape,

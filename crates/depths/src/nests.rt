@@ -12,6 +12,7 @@ pub enum Form {
 }
 
 impl Form {
+    /// Returns two levels of the form, as text.
     pub fn pattern(self) -> &'static str {
         match self {
             Form::Not => "not(not(..))",

@@ -174,7 +174,7 @@ number [] = 0
 number (true ∷ bs) = 1 + 2 * number bs
 number (false ∷ bs) = 2 * number bs
 
--- so many truths: those of the list, and false after them
+-- this many truths: those of the list, and false after them
 abbrev padded : ℕ → List Bool → List Bool
 padded zero bs = []
 padded (suc n) [] = false ∷ padded n []

@@ -1,4 +1,4 @@
--- Each fact that is found is listed, or stands in what was asked.
+-- Each fact that is found is listed, or is in what was asked.
 use Rattle.std.proofs.Common.{◌≡◌, ◌∙◌, sym, ap, subst, ◌<◌, true, ◌&&◌, ◌||◌, List, [], ◌∷◌, map}
 use Rattle.std.proofs.Common.{true≢false}
 use Rattle.std.specs.List.{list_any, All}

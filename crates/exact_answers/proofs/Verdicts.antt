@@ -1,4 +1,4 @@
--- What a group hangs on, member by member, and what that says of the whole.
+-- What a group depends on, member by member, and what that says of the whole.
 use Rattle.std.proofs.Common.{◌≡◌, ◌∙◌, refl, sym, ap, Bool, true, false, not, ◌||◌, Option, Some, None}
 use Rattle.std.proofs.Common.{List, [], ◌∷◌}
 use Rattle.cargo_platform.specs.Trees.{Tree, Not, trees_of}
@@ -47,7 +47,7 @@ module _ (told : Pair → Option Bool) where
   other false true h = refl
   other false false h = absurd (h refl)
 
-  -- ---- what a whole hangs on
+  -- ---- what a whole depends on
 
   pub hangs_itself : (e : Tree) → HangsOn true told e e
   hangs_itself e = (refl, λ p h. h)

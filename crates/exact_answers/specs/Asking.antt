@@ -10,7 +10,7 @@ use Rattle.exact_answers.specs.declared.known.Known.{Known}
 abbrev pub is_pair : Pair → Pair → Bool
 is_pair p = eq_by_cmp pair_cmp p
 
--- whether the pair stands in the tree
+-- whether the pair is in the tree
 abbrev mutual
   pub asks : Tree → Pair → Bool
   asks (Not e) p = asks e p
@@ -33,7 +33,7 @@ abbrev pub open_count : Known → List Pair → ℕ
 open_count k [] = 0
 open_count k (p ∷ ps) = one_if (is_open k p) + open_count k ps
 
--- the list has each pair that stands in some tree
+-- the list has each pair that is in some tree
 abbrev pub HasAll : Trees → List Pair → Type 0
 HasAll es ps = (p : Pair) → some_asks es p ≡ true → list_any (is_pair p) ps ≡ true
 

@@ -30,7 +30,7 @@ abbrev pub HasOneOpenValue : (Pair → Option Bool) → List (List ℕ) → Fact
 HasOneOpenValue told single s = (p q : Pair) → IsTrue (is_single single p) → IsTrue (is_some q.value)
     → p.name ≡ q.name → told p ≡ None → told q ≡ None → IsTrue (contains s p) → IsTrue (contains s q) → p ≡ q
 
--- pairs apart from where they lie in memory
+-- pairs, whatever their place in memory
 abbrev pub pairs_of : List (Bor Cfg) → List Pair
 pairs_of cs = map (λ c. pair_of (value_of c.now)) cs
 

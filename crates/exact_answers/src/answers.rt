@@ -44,10 +44,10 @@ pub fn can_be_met<'a>(
     known: &'a Known<'a>,
     budget: u64,
 ) -> Result<CanHold, AllocError>
-    // A `Yes` has a possible set of facts. Of a `No`, no set is possible.
+    // `Yes` has a possible set of facts. With `No`, no set is possible.
     //
-    // `Undecided` comes only where the budget is too small. With `n` open pairs in what is asked and assumed, `2^n - 1`
-    // splits are enough.
+    // `Undecided` is returned only if the budget is too small. With `n` open pairs in what is queried and assumed,
+    // `2^n - 1` splits are enough.
     ensures { IfOk result (λ r. SaysCan r known.now none budget (λ s. Unit {0}) (λ s. ⊥)) }
 {
     match search_any(alloc, known, budget)? {
@@ -64,11 +64,11 @@ pub fn can_hold<'a>(
     known: &'a Known<'a>,
     budget: u64,
 ) -> Result<CanHold, AllocError>
-    // Of a `Yes`, the expression is true over the example, which is possible. Of a `No`, it is false over each possible
+    // With `Yes`, the expression is true over the example, which is possible. With `No`, it is false over each possible
     // set.
     //
-    // `Undecided` comes only where the budget is too small. With `n` open pairs in what is asked and assumed, `2^n - 1`
-    // splits are enough.
+    // `Undecided` is returned only if the budget is too small. With `n` open pairs in what is queried and assumed,
+    // `2^n - 1` splits are enough.
     ensures { IfOk result (λ r. SaysCan r known.now (tree (tree_of e.now) none) budget
         (λ s. truth s (tree_of e.now) ≡ true)
         (λ s. truth s (tree_of e.now) ≡ false)) }
@@ -87,10 +87,11 @@ pub fn always<'a>(
     known: &'a Known<'a>,
     budget: u64,
 ) -> Result<MustHold, AllocError>
-    // A `Yes` is so over each possible set of facts. A `No` is not so over the example, which is possible.
+    // With `Yes`, it is so over each possible set of facts. With `No`, it is not so over the example, which is
+    // possible.
     //
-    // `Undecided` comes only where the budget is too small. With `n` open pairs in what is asked and assumed, `2^n - 1`
-    // splits are enough.
+    // `Undecided` is returned only if the budget is too small. With `n` open pairs in what is queried and assumed,
+    // `2^n - 1` splits are enough.
     ensures { IfOk result (λ r. SaysMust r known.now (tree (tree_of e.now) none) budget
         (λ s. truth s (tree_of e.now) ≡ false)
         (λ s. truth s (tree_of e.now) ≡ true)) }
@@ -110,10 +111,11 @@ pub fn implies<'a>(
     known: &'a Known<'a>,
     budget: u64,
 ) -> Result<MustHold, AllocError>
-    // A `Yes` is so over each possible set of facts. A `No` is not so over the example, which is possible.
+    // With `Yes`, it is so over each possible set of facts. With `No`, it is not so over the example, which is
+    // possible.
     //
-    // `Undecided` comes only where the budget is too small. With `n` open pairs in what is asked and assumed, `2^n - 1`
-    // splits are enough.
+    // `Undecided` is returned only if the budget is too small. With `n` open pairs in what is queried and assumed,
+    // `2^n - 1` splits are enough.
     ensures { IfOk result (λ r. SaysMust r known.now (tree (tree_of a.now) (tree (tree_of b.now) none)) budget
         (λ s. (truth s (tree_of a.now) ≡ true) × (truth s (tree_of b.now) ≡ false))
         (λ s. truth s (tree_of a.now) ≡ true → truth s (tree_of b.now) ≡ true)) }
@@ -133,10 +135,11 @@ pub fn exclude<'a>(
     known: &'a Known<'a>,
     budget: u64,
 ) -> Result<MustHold, AllocError>
-    // A `Yes` is so over each possible set of facts. A `No` is not so over the example, which is possible.
+    // With `Yes`, it is so over each possible set of facts. With `No`, it is not so over the example, which is
+    // possible.
     //
-    // `Undecided` comes only where the budget is too small. With `n` open pairs in what is asked and assumed, `2^n - 1`
-    // splits are enough.
+    // `Undecided` is returned only if the budget is too small. With `n` open pairs in what is queried and assumed,
+    // `2^n - 1` splits are enough.
     ensures { IfOk result (λ r. SaysMust r known.now (tree (tree_of a.now) (tree (tree_of b.now) none)) budget
         (λ s. (truth s (tree_of a.now) ≡ true) × (truth s (tree_of b.now) ≡ true))
         (λ s. truth s (tree_of a.now) ≡ true → truth s (tree_of b.now) ≡ false)) }
@@ -158,10 +161,11 @@ pub fn equivalent<'a>(
     known: &'a Known<'a>,
     budget: u64,
 ) -> Result<MustHold, AllocError>
-    // A `Yes` is so over each possible set of facts. A `No` is not so over the example, which is possible.
+    // With `Yes`, it is so over each possible set of facts. With `No`, it is not so over the example, which is
+    // possible.
     //
-    // `Undecided` comes only where the budget is too small. With `n` open pairs in what is asked and assumed, `2^n - 1`
-    // splits are enough.
+    // `Undecided` is returned only if the budget is too small. With `n` open pairs in what is queried and assumed,
+    // `2^n - 1` splits are enough.
     ensures { IfOk result (λ r. SaysMust r known.now (tree (tree_of a.now) (tree (tree_of b.now) none)) budget
         (λ s. truth s (tree_of a.now) ≡ not (truth s (tree_of b.now)))
         (λ s. truth s (tree_of a.now) ≡ truth s (tree_of b.now))) }

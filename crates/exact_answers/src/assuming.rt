@@ -44,8 +44,9 @@ fn with_one_more(found: Found, goal: &Goal<'_>) -> Option<Found>
     }
 }
 
-/// Searches with few splits for a set over which the goals but the first one are met, and takes what that finds where
-/// it is right for all. Where the first one is met anyway, that is left to the search for all.
+/// Searches with few splits for a set over which all goals but the first one are met. Returns the result if it is right
+/// for all goals. If the first one is met without an assumption, returns `None`, which leaves the goals to the full
+/// search.
 fn without_first<'a>(
     alloc: Global,
     goals: &[Goal<'a>],

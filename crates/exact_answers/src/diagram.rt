@@ -65,7 +65,7 @@ fn outcome_of<'a>(
     Ok(Outcome::TooLarge)
 }
 
-/// Takes the pair with this number, where it is open.
+/// Takes the pair with this number, if it is open.
 fn take_at<'a>(
     path: &mut Path<'a>,
     pairs: &[&'a Cfg],

@@ -9,18 +9,18 @@ ghost use Rattle.exact_answers.specs.Families.{KeepsFamilyRule};
 use cargo_platform::{Cfg, CfgExpr, ReadError};
 use std::alloc::{AllocError, Global};
 
-/// The rule by which rustc sets `unix` and `windows`, as the text of an expression: each is a fact exactly where the
-/// pair of `target_family` is. The Rust reference states it in its chapter on conditional compilation. `family_rule`
-/// reads it.
+/// The rule by which rustc sets `unix` and `windows`, as the text of an expression: each of them is a fact exactly if
+/// its pair of `target_family` is. The Rust reference states it in its chapter on conditional compilation.
+/// `family_rule` parses it.
 pub const FAMILY_RULE: &str = "all(\
     any(all(unix, target_family = \"unix\"), not(any(unix, target_family = \"unix\"))), \
     any(all(windows, target_family = \"windows\"), not(any(windows, target_family = \"windows\"))))";
 
 /// Returns the rule of `FAMILY_RULE`, for a caller that assumes it.
 ///
-/// Fails only where memory runs out.
+/// Fails only if an allocation fails.
 pub fn family_rule(alloc: Global) -> Result<CfgExpr, AllocError>
-    // The rule is what `FAMILY_RULE` spells.
+    // The rule is what the text `FAMILY_RULE` means.
     ensures text { IfOk result (λ rule. IsTreeText FAMILY_RULE.now (tree_of rule)) }
     // It is true over exactly the sets with `unix` if and only if they have `target_family = "unix"`, and so for
     // `windows`.

@@ -251,7 +251,7 @@ fn joined(each: bool, one: Finding, other: Finding) -> Finding
     Finding { sets, seen }
 }
 
-/// Returns the words of a pair of which it is known whether it is a fact.
+/// Returns the words of a pair that is known to be a fact, or known not to be one.
 fn told<'a>(pair: &'a Cfg, fact: bool) -> Words<'a>
     ensures same { pair_of (value_of result.pair.now) ≡ pair_of (value_of pair.now) }
     ensures tells { result.tells ≡ Some fact }
@@ -265,7 +265,7 @@ fn told<'a>(pair: &'a Cfg, fact: bool) -> Words<'a>
     }
 }
 
-/// Returns the words of an open pair, which the sets of a pattern have.
+/// Returns the words of an open pair, which is a fact in the sets of a pattern.
 fn split<'a>(pair: &'a Cfg, pattern: u64) -> Words<'a>
     ensures same { pair_of (value_of result.pair.now) ≡ pair_of (value_of pair.now) }
     ensures tells { result.tells ≡ None }
@@ -375,7 +375,7 @@ fn finding_of(table: &[Words<'_>], wanted: bool, number: usize) -> Finding
     Finding { sets, seen }
 }
 
-/// Takes the last findings, so many, and joins them.
+/// Removes the last `count` findings, and joins them.
 fn gathered(findings: &mut Vec<Finding>, each: bool, count: usize) -> Finding
     ensures { (table : List Words) (l : ℕ) (bs : List Bool) → l < 64 → Covers table l (reverse findings.old.items) bs
         → Says table l result (gathered each count bs)

@@ -177,7 +177,7 @@ impl<'a> Path<'a> {
         Ok(())
     }
 
-    /// Takes a pair, where it is open, as a fact or as none. It counts no split.
+    /// Takes an open pair as a fact or as none, without counting a split. Does nothing if the pair is not open.
     pub fn take(&mut self, fact: &'a Cfg, holds: bool) -> Result<(), AllocError>
         ensures known { self.new.known.now ≡ self.old.known.now }
         ensures open { OnOk result (WereOpen (base_of self.old.known.now) (turns self.old)
@@ -191,7 +191,7 @@ impl<'a> Path<'a> {
         Ok(())
     }
 
-    /// Puts the splits of another path in the place of its own.
+    /// Replaces its splits by those of another path.
     pub fn put_splits_of(&mut self, other: Path<'a>)
         ensures known { self.new.known.now ≡ self.old.known.now }
         ensures counted { self.new.made ≡ self.old.made }

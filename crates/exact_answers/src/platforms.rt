@@ -17,7 +17,7 @@ use std::alloc::{AllocError, Global};
 /// A target that is possible.
 #[derive(Drop)]
 pub struct PossibleTarget {
-    /// Its name. `None` stands for any name that is not in the conditions of the query.
+    /// Its name. `None` means any name that is not in the conditions of the query.
     pub name: Option<String>,
     /// Its facts.
     pub facts: Vec<Cfg>,
@@ -71,11 +71,11 @@ pub fn can_hold_platform<'a>(
     known: &'a Known<'a>,
     budget: u64,
 ) -> Result<CanSelect, AllocError>
-    // Of a `Yes`, the condition holds for the example, which is possible. Of a `No`, it holds for no name over any
-    // possible set.
+    // With `Yes`, the condition is true on the example, which is possible. With `No`, it is false for each name over
+    // each possible set.
     //
-    // `Undecided` comes only where the budget is too small. With `n` open pairs in what is asked and assumed, `2^n - 1`
-    // splits are enough.
+    // `Undecided` is returned only if the budget is too small. With `n` open pairs in what is queried and assumed,
+    // `2^n - 1` splits are enough.
     ensures { IfOk result (λ r. SaysCanSelect r known.now (condition_of platform.now ∷ []) budget
         (λ name s. IsTrueCondition name s (condition_of platform.now))
         (λ name s. IsTrueCondition name s (condition_of platform.now) → ⊥)) }
@@ -91,10 +91,11 @@ pub fn always_platform<'a>(
     known: &'a Known<'a>,
     budget: u64,
 ) -> Result<MustSelect, AllocError>
-    // A `Yes` is so for each name over each possible set of facts. A `No` is not so for the example, which is possible.
+    // With `Yes`, it is so for each name over each possible set of facts. With `No`, it is not so for the example,
+    // which is possible.
     //
-    // `Undecided` comes only where the budget is too small. With `n` open pairs in what is asked and assumed, `2^n - 1`
-    // splits are enough.
+    // `Undecided` is returned only if the budget is too small. With `n` open pairs in what is queried and assumed,
+    // `2^n - 1` splits are enough.
     ensures { IfOk result (λ r. SaysMustSelect r known.now (condition_of platform.now ∷ []) budget
         (λ name s. IsTrueCondition name s (condition_of platform.now) → ⊥)
         (λ name s. IsTrueCondition name s (condition_of platform.now))) }
@@ -111,10 +112,11 @@ pub fn implies_platform<'a>(
     known: &'a Known<'a>,
     budget: u64,
 ) -> Result<MustSelect, AllocError>
-    // A `Yes` is so for each name over each possible set of facts. A `No` is not so for the example, which is possible.
+    // With `Yes`, it is so for each name over each possible set of facts. With `No`, it is not so for the example,
+    // which is possible.
     //
-    // `Undecided` comes only where the budget is too small. With `n` open pairs in what is asked and assumed, `2^n - 1`
-    // splits are enough.
+    // `Undecided` is returned only if the budget is too small. With `n` open pairs in what is queried and assumed,
+    // `2^n - 1` splits are enough.
     ensures { IfOk result (λ r. SaysMustSelect r known.now (condition_of a.now ∷ condition_of b.now ∷ []) budget
         (λ name s. IsTrueCondition name s (condition_of a.now) × (IsTrueCondition name s (condition_of b.now) → ⊥))
         (λ name s. IsTrueCondition name s (condition_of a.now) → IsTrueCondition name s (condition_of b.now))) }
@@ -138,10 +140,11 @@ pub fn exclude_platform<'a>(
     known: &'a Known<'a>,
     budget: u64,
 ) -> Result<MustSelect, AllocError>
-    // A `Yes` is so for each name over each possible set of facts. A `No` is not so for the example, which is possible.
+    // With `Yes`, it is so for each name over each possible set of facts. With `No`, it is not so for the example,
+    // which is possible.
     //
-    // `Undecided` comes only where the budget is too small. With `n` open pairs in what is asked and assumed, `2^n - 1`
-    // splits are enough.
+    // `Undecided` is returned only if the budget is too small. With `n` open pairs in what is queried and assumed,
+    // `2^n - 1` splits are enough.
     ensures { IfOk result (λ r. SaysMustSelect r known.now (condition_of a.now ∷ condition_of b.now ∷ []) budget
         (λ name s. IsTrueCondition name s (condition_of a.now) × IsTrueCondition name s (condition_of b.now))
         (λ name s. IsTrueCondition name s (condition_of a.now) → IsTrueCondition name s (condition_of b.now) → ⊥)) }
@@ -165,10 +168,11 @@ pub fn equivalent_platform<'a>(
     known: &'a Known<'a>,
     budget: u64,
 ) -> Result<MustSelect, AllocError>
-    // A `Yes` is so for each name over each possible set of facts. A `No` is not so for the example, which is possible.
+    // With `Yes`, it is so for each name over each possible set of facts. With `No`, it is not so for the example,
+    // which is possible.
     //
-    // `Undecided` comes only where the budget is too small. With `n` open pairs in what is asked and assumed, `2^n - 1`
-    // splits are enough.
+    // `Undecided` is returned only if the budget is too small. With `n` open pairs in what is queried and assumed,
+    // `2^n - 1` splits are enough.
     ensures { IfOk result (λ r. SaysMustSelect r known.now (condition_of a.now ∷ condition_of b.now ∷ []) budget
         (λ name s. (IsTrueCondition name s (condition_of a.now) ↔ IsTrueCondition name s (condition_of b.now)) → ⊥)
         (λ name s. IsTrueCondition name s (condition_of a.now) ↔ IsTrueCondition name s (condition_of b.now))) }
@@ -282,7 +286,7 @@ fn search_further(
     }
 }
 
-/// Searches among the targets that `by` names, where it is a name.
+/// Searches among the targets that `by` names, if it is a name.
 fn search_named(
     alloc: Global,
     by: &Platform,

@@ -29,7 +29,7 @@ is_whole n small =
     position_or_len_is is_point (decimal n) (length (decimal n)) 0 (omega arith) (λ k l. no_point n k small l)
     (λ l. absurd (omega arith))
 
--- the first point stands behind the number
+-- the first point is after the number
 first_point : (n : ℕ) (rest : List ℕ) → n < 2 ^ 64
     → position_or_len is_point (decimal n ++ (46 ∷ rest)) ≡ length (decimal n)
 first_point n rest small =

@@ -15,7 +15,7 @@ IsTransitive = (a b c : Release) → IsAtMost a b → IsAtMost b c → IsAtMost 
 abbrev pub IsAntisymmetric : Type 0
 IsAntisymmetric = (a b : Release) → IsAtMost a b → IsAtMost b a → a ≡ b
 
--- a project has one verdict
+-- a project has exactly one verdict
 abbrev pub HasOneVerdict : Type 0
 HasOneVerdict = (b : Bounds) (rustc version : Option Release) (v w : Verdict)
     → IsVerdict b rustc version v → IsVerdict b rustc version w → v ≡ w

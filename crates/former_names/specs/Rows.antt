@@ -9,19 +9,19 @@ use Rattle.former_names.specs.declared.table.TheConstants.{TARGETS, FACTS, RENAM
 abbrev pub Numbers : Type 0
 Numbers = ℕ × ℕ × ℕ
 
--- the name of a target, and both releases
+-- a target's name, the last release known to have it, and the first known to lack it
 abbrev pub TargetRow : Type 0
 TargetRow = List ℕ × Numbers × Numbers
 
--- the key and the value of a fact, and both releases
+-- a fact's key and value, the last release known to have it, and the first known to lack it
 abbrev pub FactRow : Type 0
 FactRow = List ℕ × List ℕ × Numbers × Numbers
 
--- the name of a target, and the one that stands for it now
+-- the former name of a target, and its name now
 abbrev pub RenamedRow : Type 0
 RenamedRow = List ℕ × List ℕ
 
--- rows apart from where they lie in memory
+-- rows, whatever their place in memory
 abbrev pub targets_of : List (Bor (List ℕ) × Numbers × Numbers) → List TargetRow
 targets_of rows = map (λ row. (row.0.now, row.1, row.2)) rows
 
@@ -56,6 +56,6 @@ abbrev pub HasFact : CfgValue → Bounds → Type 0
 HasFact (Alone name) b = ⊥
 HasFact (KeyPair key value) b = HasPair fact_rows key.name value b
 
--- another name stands for that of a target now
+-- the target with this name has another name now
 abbrev pub IsRenamed : List RenamedRow → List ℕ → List ℕ → Type 0
 IsRenamed rows name now = Contains rows (name, now)

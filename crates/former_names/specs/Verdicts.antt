@@ -1,4 +1,4 @@
--- What it comes to for a project that rustc does not know a name any more.
+-- What it means for a project that rustc no longer knows a name.
 use Rattle.std.specs.Prelude.{◌≡◌, ◌⊎◌, ◌+◌, Option}
 use Rattle.std.specs.Option.{IsSomeAnd}
 use Rattle.former_names.specs.Releases.{IsAtMost}
@@ -7,11 +7,11 @@ use Rattle.former_names.specs.declared.rows.Bounds.{Bounds}
 use Rattle.former_names.specs.declared.verdicts.Verdict.{Verdict}
 use Rattle.former_names.specs.declared.verdicts.Verdict.TheVariants.{Known, Gone, GoneForAll}
 
--- a rustc is named, and is at most the last one that is known to have had the name
+-- a rustc is named, and is at most the last release that is known to have the name
 abbrev pub IsKnownTo : Bounds → Option Release → Type 0
 IsKnownTo b rustc = IsSomeAnd rustc (λ r. IsAtMost r b.last)
 
--- a release is named, and is at least the first one that is known not to have it
+-- a release is named, and is at least the first one that is known to lack the name
 abbrev pub IsLacking : Bounds → Option Release → Type 0
 IsLacking b named = IsSomeAnd named (λ r. IsAtMost b.gone r)
 
@@ -19,7 +19,7 @@ IsLacking b named = IsSomeAnd named (λ r. IsAtMost b.gone r)
 abbrev pub IsClose : Bounds → Type 0
 IsClose b = (b.last.major ≡ b.gone.major) × (b.gone.minor ≡ 1 + b.last.minor)
 
--- the project's rustc has no name, or the oldest one that may build it has none
+-- the project's rustc lacks the name, or the oldest rustc that may build it does
 abbrev pub IsGoneForAll : Bounds → Option Release → Option Release → Type 0
 IsGoneForAll b rustc version = IsLacking b rustc ⊎ IsLacking b version
 

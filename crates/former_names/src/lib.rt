@@ -1,8 +1,8 @@
-//! Names of targets and facts that rustc knew before: from which release on it does not, and what that comes to for a
-//! project.
+//! The names of targets and facts that earlier releases of rustc knew: from which release on they are unknown, and what
+//! that means for a project.
 //!
 //! The table is made from `table/former.txt`, where each row has its source. A project may name the rustc that builds
-//! it, and its `rust-version` is the oldest one that may.
+//! it, and its `rust-version` is the oldest rustc that may.
 #![tactic(auto)]
 
 pub mod laws;

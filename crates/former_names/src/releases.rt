@@ -1,4 +1,4 @@
-//! Releases of rustc, as texts and in their order.
+//! Releases of rustc, their order, and how they are parsed.
 
 ghost use Rattle.std.specs.Prelude.{◌↔◌, ◌≡◌, ◌≢◌, ◌<◌, ◌^◌, ℕ, IsTrue, IfSome, IfNone};
 ghost use Rattle.std.specs.Fmt.{decimal};
@@ -15,7 +15,7 @@ pub struct Release {
     pub patch: u64,
 }
 
-/// The number that a text is the decimal of. It has no sign, and no zero before other digits.
+/// Parses a decimal number, without a sign, and without leading zeros.
 #[rattlefmt::skip]
 #[tactic(auto, using(
     crate::proofs::Numbers::is_read, crate::proofs::Numbers::is_unread, crate::proofs::Numbers::not_empty,
@@ -38,7 +38,7 @@ fn number(text: &str) -> Option<u64>
     text.parse::<u64>().ok()
 }
 
-/// The second and the third number that a text spells. A third one that is not there is 0.
+/// Parses the second and the third number of a release. A missing third number is 0.
 fn last_numbers(text: &str) -> Option<(u64, u64)>
     ensures read { IfSome result (λ n. SpellsLast text.now n.0 n.1) }
     ensures unread { IfNone result ((minor patch : ℕ) → minor < 2 ^ 64 → patch < 2 ^ 64
@@ -51,7 +51,8 @@ fn last_numbers(text: &str) -> Option<(u64, u64)>
 }
 
 impl Release {
-    /// The release that a text spells: two numbers with a point between them, or three. Of two the last one is 0.
+    /// Parses a release: two or three numbers with points between them. A missing third number is 0. Returns `None` for
+    /// any other text.
     pub fn of(text: &str) -> Option<Release>
         ensures read { IfSome result (λ r. IsSpelled text.now r) }
         ensures unread { IfNone result ((r : Release) → IsSpelled text.now r → ⊥) }
@@ -65,7 +66,7 @@ impl Release {
         })
     }
 
-    /// Whether the other one is the same, or came later.
+    /// Returns whether `other` is the same release or a later one.
     pub fn is_at_most(self, other: Release) -> bool
         ensures { IsTrue result ↔ IsAtMost self other }
     {
@@ -83,7 +84,7 @@ impl Display for Release {
     ghost use Rattle.std.specs.Prelude.{Some};
     ghost use Rattle.former_names.specs.Releases.{whole_text};
 
-    // It prints exactly the bytes of the definition.
+    // Prints exactly the bytes that the definition gives.
     ghost output = { λ r. Some (whole_text r) };
 
     fn fmt<W: fmt::Write>(&self, f: &mut fmt::Formatter<W>) -> fmt::Result {

@@ -1,4 +1,4 @@
-//! The rows of the table, and how a name is looked up.
+//! Looks names up in the table.
 
 ghost use Rattle.std.specs.Prelude.{◌≡◌, ℕ, List, IfSome, IfNone};
 ghost use Rattle.cargo_platform.specs.Trees.{value_of};
@@ -9,49 +9,49 @@ use crate::releases::Release;
 use crate::table::{FACTS, RENAMED, TARGETS};
 use cargo_platform::Cfg;
 
-/// The numbers of a release.
+/// The numbers of a release: major, minor and patch.
 pub type Numbers = (u64, u64, u64);
 
-/// The name of a target, and both releases.
+/// A target's name, the last release known to have it, and the first known to lack it.
 pub type TargetRow = (&'static str, Numbers, Numbers);
 
-/// The key and the value of a fact, and both releases.
+/// A fact's key and value, the last release known to have it, and the first known to lack it.
 pub type FactRow = (&'static str, &'static str, Numbers, Numbers);
 
-/// The name of a target, and the one that stands for it now.
+/// The former name of a target, and its name now.
 pub type RenamedRow = (&'static str, &'static str);
 
-/// Between which releases a name went.
+/// The releases between which a name was removed.
 #[derive(Clone, Copy, Debug, PartialEq, Eq, Drop)]
 pub struct Bounds {
-    /// The last release that is known to have had it.
+    /// The last release that is known to have it.
     pub last: Release,
-    /// The first one that is known not to have it.
+    /// The first release that is known to lack it.
     pub gone: Release,
 }
 
-/// The rows of targets.
+/// Returns the rows of targets.
 fn targets() -> &'static [TargetRow]
     ensures { targets_of result.now ≡ target_rows }
 {
     &TARGETS
 }
 
-/// The rows of facts.
+/// Returns the rows of facts.
 fn facts() -> &'static [FactRow]
     ensures { facts_of result.now ≡ fact_rows }
 {
     &FACTS
 }
 
-/// The rows of names that others stand for.
+/// Returns the rows of renamed targets.
 fn renamed() -> &'static [RenamedRow]
     ensures { renamed_of result.now ≡ renamed_rows }
 {
     &RENAMED
 }
 
-/// The release of these numbers.
+/// Returns the release with these numbers.
 fn release(numbers: Numbers) -> Release
     ensures { numbers_of result ≡ numbers }
 {
@@ -63,7 +63,7 @@ fn release(numbers: Numbers) -> Release
     }
 }
 
-/// What the row of a target with this name says.
+/// Returns the releases in the row of a target with this name.
 fn find_target(rows: &[TargetRow], name: &str) -> Option<Bounds>
     ensures found { IfSome result (λ b. HasTarget (targets_of rows.now) name.now b) }
     ensures none { IfNone result ((b : Bounds) → HasTarget (targets_of rows.now) name.now b → ⊥) }
@@ -80,7 +80,7 @@ fn find_target(rows: &[TargetRow], name: &str) -> Option<Bounds>
     None
 }
 
-/// What the row of a fact with this key and value says.
+/// Returns the releases in the row of a fact with this key and value.
 fn find_fact(rows: &[FactRow], key: &str, value: &str) -> Option<Bounds>
     ensures found { IfSome result (λ b. HasPair (facts_of rows.now) key.now value.now b) }
     ensures none { IfNone result ((b : Bounds) → HasPair (facts_of rows.now) key.now value.now b → ⊥) }
@@ -97,7 +97,7 @@ fn find_fact(rows: &[FactRow], key: &str, value: &str) -> Option<Bounds>
     None
 }
 
-/// The name that a row has for this one.
+/// Returns the present name of a target that had this name.
 fn find_renamed(rows: &[RenamedRow], name: &str) -> Option<&'static str>
     ensures found { IfSome result (λ now. IsRenamed (renamed_of rows.now) name.now now.now) }
     ensures none { IfNone result ((now : List ℕ) → IsRenamed (renamed_of rows.now) name.now now → ⊥) }
@@ -111,7 +111,7 @@ fn find_renamed(rows: &[RenamedRow], name: &str) -> Option<&'static str>
     None
 }
 
-/// Between which releases the name of a target went, where rustc knew it before.
+/// Returns the releases between which the target with this name was removed, or `None` if the table does not have it.
 pub fn former_target(name: &str) -> Option<Bounds>
     ensures found { IfSome result (λ b. HasTarget target_rows name.now b) }
     ensures none { IfNone result ((b : Bounds) → HasTarget target_rows name.now b → ⊥) }
@@ -119,7 +119,8 @@ pub fn former_target(name: &str) -> Option<Bounds>
     find_target(targets(), name)
 }
 
-/// Between which releases a key with this value went, where a target had it before.
+/// Returns the releases between which the pair of this key and value was removed, or `None` if the table does not have
+/// it.
 fn former_pair(key: &str, value: &str) -> Option<Bounds>
     ensures found { IfSome result (λ b. HasPair fact_rows key.now value.now b) }
     ensures none { IfNone result ((b : Bounds) → HasPair fact_rows key.now value.now b → ⊥) }
@@ -127,7 +128,8 @@ fn former_pair(key: &str, value: &str) -> Option<Bounds>
     find_fact(facts(), key, value)
 }
 
-/// Between which releases a fact went, where a target had it before. Its raw mark plays no part.
+/// Returns the releases between which a fact was removed, or `None` if the table does not have it. Its raw mark plays
+/// no part.
 pub fn former_fact(c: &Cfg) -> Option<Bounds>
     ensures found { IfSome result (λ b. HasFact (value_of c.now) b) }
     ensures none { IfNone result ((b : Bounds) → HasFact (value_of c.now) b → ⊥) }
@@ -138,8 +140,8 @@ pub fn former_fact(c: &Cfg) -> Option<Bounds>
     }
 }
 
-/// Whether a text has the value of a fact that a target had before, at any place. A condition whose text has none asks
-/// for no such fact.
+/// Returns whether a text contains, anywhere, the value of a fact that was removed. If it does not, a condition with
+/// this text tests for no such fact.
 pub fn has_former_value(text: &str) -> bool {
     for row in facts() {
         let (_, value, _, _) = row;
@@ -150,7 +152,7 @@ pub fn has_former_value(text: &str) -> bool {
     false
 }
 
-/// The name of a target that stands for a former one now, where the release notes tell one.
+/// Returns the present name of the target that had this name, if the release notes give one, or `None`.
 pub fn name_now(name: &str) -> Option<&'static str>
     ensures found { IfSome result (λ now. IsRenamed renamed_rows name.now now.now) }
     ensures none { IfNone result ((now : List ℕ) → IsRenamed renamed_rows name.now now → ⊥) }

@@ -31,7 +31,7 @@ pub static FACTS: [FactRow; 2] = [
     ("target_os", "cloudabi", (1, 49, 0), (1, 50, 0)),
 ];
 
-/// The rows of names that others stand for.
+/// The rows of renamed targets.
 #[rattlefmt::skip]
 pub static RENAMED: [RenamedRow; 5] = [
     ("aarch64-fuchsia", "aarch64-unknown-fuchsia"),

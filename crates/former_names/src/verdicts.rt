@@ -1,4 +1,4 @@
-//! What it comes to for a project that rustc does not know a name any more.
+//! What it means for a project that rustc no longer knows a name.
 
 ghost use Rattle.std.specs.Prelude.{◌↔◌, IsTrue};
 ghost use Rattle.former_names.specs.Verdicts.{IsKnownTo, IsLacking, IsClose, IsVerdict};
@@ -6,19 +6,19 @@ ghost use Rattle.former_names.specs.Verdicts.{IsKnownTo, IsLacking, IsClose, IsV
 use crate::releases::Release;
 use crate::rows::Bounds;
 
-/// What a project comes to.
+/// What an unknown name means for a project.
 #[derive(Clone, Copy, Debug, PartialEq, Eq, Drop)]
 pub enum Verdict {
-    /// Its rustc knows the name.
+    /// The project's rustc knows the name.
     Known,
-    /// Some rustc does not know it.
+    /// Some rustc that may build the project does not know the name.
     Gone,
-    /// No rustc that builds it knows it.
+    /// No rustc that may build the project knows the name.
     GoneForAll,
 }
 
 impl Bounds {
-    /// Whether a project names a rustc that is known to have had the name.
+    /// Returns whether a project names a rustc that is known to have the name.
     fn is_known_to(self, rustc: Option<Release>) -> bool
         ensures { IsTrue result ↔ IsKnownTo self rustc }
     {
@@ -28,7 +28,7 @@ impl Bounds {
         }
     }
 
-    /// Whether a release is named, and is known not to have the name, or is a later one.
+    /// Returns whether a release is named, and is the first one that is known to lack the name, or a later one.
     pub fn is_lacking(self, named: Option<Release>) -> bool
         ensures { IsTrue result ↔ IsLacking self named }
     {
@@ -38,7 +38,8 @@ impl Bounds {
         }
     }
 
-    /// Whether no release of its own minor number lies between both: the last release is then known for certain.
+    /// Returns whether no minor release is between the two, so that `gone` is exactly the first release without the
+    /// name.
     pub fn is_close(self) -> bool
         ensures { IsTrue result ↔ IsClose self }
     {
@@ -46,7 +47,8 @@ impl Bounds {
         last.major == gone.major && last.minor < gone.minor && gone.minor - last.minor == 1
     }
 
-    /// What the name comes to for a project, by the rustc that builds it and by its `rust-version`, where it has them.
+    /// Returns what the name means for a project, by the rustc that builds it and by its `rust-version`, if it names
+    /// them.
     pub fn verdict(self, rustc: Option<Release>, rust_version: Option<Release>) -> Verdict
         ensures { IsVerdict self rustc rust_version result }
     {

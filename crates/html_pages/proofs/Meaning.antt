@@ -38,7 +38,7 @@ stand_free _ _ (entity e c page text is stand) =
 pub no_mark : HasNoMark
 no_mark page text stand = stand_free page text stand
 
--- ---- what stands is what is written
+-- ---- what is on the page is what is written
 
 record AllFalse (a b c d e : Bool) : Type 0 where
   pub first : a ≡ false

@@ -1,4 +1,4 @@
--- What stands for a text on a page.
+-- What is written on a page for a text.
 use Rattle.std.specs.Prelude.{◌≡◌, ℕ, Bool, false, ◌==◌, ◌||◌, if◌then◌else◌, List, [], ◌∷◌, ◌++◌, codes}
 use Rattle.std.specs.Prelude.{encode_utf8_all}
 use Rattle.std.specs.Str.{chars}
@@ -7,7 +7,7 @@ use Rattle.std.specs.Str.{chars}
 abbrev pub is_mark : ℕ → Bool
 is_mark c = c == 60 || c == 62 || c == 38 || c == 34 || c == 39
 
--- the entities, each with the mark that it stands for
+-- the entities, each with the mark that it means
 pub data IsEntity : List ℕ → ℕ → Type 0 where
   less : IsEntity (codes "&lt;") 60
   greater : IsEntity (codes "&gt;") 62
@@ -15,8 +15,8 @@ pub data IsEntity : List ℕ → ℕ → Type 0 where
   quote : IsEntity (codes "&quot;") 34
   apostrophe : IsEntity (codes "&#39;") 39
 
--- Characters of a page stand for a text's: each mark by its entity, and any other character as it is. So no mark is on
--- the page but as a part of these entities.
+-- Characters of a page stand for those of a text: for each mark its entity, and every other character for itself. So a
+-- mark is on the page only as a part of these entities.
 pub data StandFor : List ℕ → List ℕ → Type 0 where
   nothing : StandFor [] []
   plain : (c : ℕ) (page text : List ℕ) → is_mark c ≡ false → StandFor page text → StandFor (c ∷ page) (c ∷ text)
@@ -27,7 +27,7 @@ pub data StandFor : List ℕ → List ℕ → Type 0 where
 abbrev pub WritesText : List ℕ → List ℕ → Type 0
 WritesText page text = (cs : List ℕ) × (page ≡ encode_utf8_all cs) × StandFor cs (chars text)
 
--- a page goes on with characters that stand for the text
+-- characters that stand for the text are appended to a page
 abbrev pub AppendsText : List ℕ → List ℕ → List ℕ → Type 0
 AppendsText page text longer = (more : List ℕ) × (longer ≡ page ++ more) × WritesText more text
 

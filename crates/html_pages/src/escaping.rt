@@ -1,4 +1,4 @@
-//! How a text is written on a page.
+//! Escapes text for HTML pages.
 
 ghost use Rattle.std.specs.Prelude.{◌≡◌, ◌++◌, IfOk, OnOk, encode_utf8_all, flat_map, string_bytes};
 ghost use Rattle.std.specs.Str.{chars};
@@ -6,8 +6,8 @@ ghost use Rattle.html_pages.specs.Escaping.{WritesText, escape};
 
 use std::alloc::{AllocError, Global};
 
-/// The text as it is written on a page: each of `<`, `>`, `&`, `"` and `'` as its entity, each other character as it
-/// is. So it opens no tag and no entity, and ends no value of an attribute, and a browser shows the text.
+/// Returns the text as it is written on a page: `<`, `>`, `&`, `"` and `'` as entities, and every other character
+/// unchanged. So it begins no tag and no entity, does not end the value of an attribute, and a browser shows the text.
 pub fn escaped(alloc: Global, text: &str) -> Result<String, AllocError>
     ensures { IfOk result (λ page. WritesText (string_bytes page) text.now) }
 {
@@ -16,7 +16,7 @@ pub fn escaped(alloc: Global, text: &str) -> Result<String, AllocError>
     Ok(page)
 }
 
-/// Appends a text as it is written on a page.
+/// Appends the escaped text.
 pub(crate) fn push_text(page: &mut String, text: &str) -> Result<(), AllocError>
     ensures { OnOk result (string_bytes page.new
         ≡ string_bytes page.old ++ encode_utf8_all (flat_map escape (chars text.now))) }
@@ -27,7 +27,7 @@ pub(crate) fn push_text(page: &mut String, text: &str) -> Result<(), AllocError>
     Ok(())
 }
 
-/// Appends a character as it is written on a page.
+/// Appends the escaped character.
 fn push_character(page: &mut String, c: char) -> Result<(), AllocError>
     ensures { OnOk result (string_bytes page.new ≡ string_bytes page.old ++ encode_utf8_all (escape c)) }
 {

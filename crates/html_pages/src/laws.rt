@@ -1,13 +1,13 @@
-//! Laws of the definitions, each proved as the contract of a function that does nothing.
+//! Laws: statements about the definitions. The functions have empty bodies, and each contract is a law.
 
 ghost use Rattle.html_pages.specs.Laws.{HasNoMark, HasOneMeaning};
 
-/// What stands for a text has no `<`, `>`, `"` and `'`.
+/// An escaped text has no `<`, `>`, `"` and `'`.
 pub fn no_marks()
     ensures { HasNoMark }
 {}
 
-/// It stands for one text alone.
+/// An escaped text stands for exactly one text.
 pub fn one_meaning()
     ensures { HasOneMeaning }
 {}

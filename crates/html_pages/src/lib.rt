@@ -1,8 +1,8 @@
-//! Pages of HTML: markup that stands in a program, and texts that come from anywhere.
+//! Writes HTML pages from fixed markup and arbitrary texts.
 //!
-//! No text opens a tag or an entity, or ends the value of an attribute: each of its marks is written as an entity.
-//! Markup is a `&'static str`, so that a text that was read can't be taken for it. What allocates takes the allocator
-//! first and answers a `Result`.
+//! No text begins a tag or an entity, or ends the value of an attribute: each character that could is written as an
+//! entity. Markup is a `&'static str`, so that no text that was read can be passed for it. A function that allocates
+//! takes the allocator first and returns a `Result`.
 #![tactic(auto)]
 
 mod escaping;

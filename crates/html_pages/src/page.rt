@@ -4,7 +4,7 @@ use crate::escaping::push_text;
 use std::alloc::{AllocError, Global};
 use std::marker::Model;
 
-/// A page, as far as it is written.
+/// The part of a page that is written so far.
 #[derive(Drop)]
 pub struct Page {
     html: String,
@@ -22,7 +22,7 @@ impl Page {
     ghost use Rattle.std.specs.Prelude.{◌≡◌, ◌++◌, [], OnOk, string_bytes};
     ghost use Rattle.html_pages.specs.Escaping.{AppendsText};
 
-    /// A page on which nothing stands yet.
+    /// Creates an empty page.
     pub fn new(alloc: Global) -> Page
         ensures { result ≡ [] }
     {
@@ -31,21 +31,22 @@ impl Page {
         }
     }
 
-    /// Writes markup as it is. It stands in the program, so that no text that was read can be taken for it.
+    /// Appends markup unchanged. It is part of the program, so that no text that was read can be passed for it. Fails
+    /// only if an allocation fails.
     pub fn push_markup(&mut self, markup: &'static str) -> Result<(), AllocError>
         ensures { OnOk result (self.new ≡ self.old ++ markup.now) }
     {
         self.html.push_str(markup)
     }
 
-    /// Writes a text from anywhere, as `escaped` has it.
+    /// Appends any text, escaped as by `escaped`. Fails only if an allocation fails.
     pub fn push_text(&mut self, text: &str) -> Result<(), AllocError>
         ensures { OnOk result (AppendsText self.old text.now self.new) }
     {
         push_text(&mut self.html, text)
     }
 
-    /// The whole page.
+    /// Returns the whole page.
     pub fn into_html(self) -> String
         ensures { string_bytes result ≡ self }
     {

@@ -14,7 +14,7 @@ use Rattle.input_limits.specs.Laws.{HasDepth, IsNotBoth, HasOnePlace}
 
 -- ---- some depth
 
--- a token of a cut comes behind those before it
+-- a token of a cut comes after those before it
 comes_at : (text : List ℕ) (from tail : ℕ) (before after : List Placed) (u : Placed) (last : Item)
     → ComesBehind text from (before ++ u ∷ after) last tail → ComesBehind text from before (Token u) u.end
 comes_at text from tail [] after u last c = c.0
@@ -119,7 +119,7 @@ same_tail t u ts us is = ap tail_of is
     tail_of [] = []
     tail_of (x ∷ xs) = xs
 
--- where so many are open, a `(` opens one too many
+-- where this many are open, a `(` opens one too many
 too_many : (o most : ℕ) (t : Lexeme) → t ≡ LeftParen → o ≡ most → open_after o t ≤ most → ⊥
 too_many o most t paren is within = more (subst (λ z. open_after o z ≤ most) paren within)
   where

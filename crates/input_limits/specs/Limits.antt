@@ -1,4 +1,4 @@
--- How deep a key may be nested.
+-- How deeply a key may be nested.
 use Rattle.std.specs.Prelude.{ℕ, List, ◌++◌, codes}
 use Rattle.std.specs.Fmt.{decimal}
 use Rattle.cargo_platform.specs.Trees.{Condition}
@@ -8,21 +8,21 @@ use Rattle.cargo_platform.specs.Platforms.{IsConditionText, IsRefusedConditionAt
 use Rattle.input_limits.specs.declared.keys.KeyError.{KeyError}
 use Rattle.input_limits.specs.declared.keys.KeyError.TheVariants as error
 
--- so many parentheses may be open at once: those of 100,000 groups, and that of `cfg(`
+-- the greatest number of parentheses that may be open at once: those of 100,000 groups, and that of `cfg(`
 abbrev pub most_open : ℕ
 most_open = 100_001
 
 abbrev pub IsShallow : List ℕ → Type 0
 IsShallow key = IsNestedWithin key most_open
 
--- the parenthesis at this place is the first that is one too many
+-- the parenthesis at this position is the first that is one too many
 abbrev pub IsDeepAt : List ℕ → ℕ → Type 0
 IsDeepAt key at = IsPassedAt key most_open at
 
 abbrev pub SpellsNothing : List ℕ → Type 0
 SpellsNothing key = (c : Condition) → IsConditionText key c → ⊥
 
--- the key is too deep from a place on; or it is not, and spells no condition, for this fault
+-- the key is nested too deeply from a position on, or else it spells no condition, because of this fault
 abbrev pub IsWhyUnread : List ℕ → KeyError → Type 0
 IsWhyUnread key (error.Deep at) = IsDeepAt key at
 IsWhyUnread key (error.Parse e) =

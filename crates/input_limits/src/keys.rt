@@ -1,4 +1,4 @@
-//! Keys that are read only where they are not nested too deep for a stack of 8 MiB.
+//! Parses keys, unless they are nested too deeply for a stack of 8 MiB.
 
 ghost use Rattle.std.specs.Prelude.{◌≡◌, IfOk, IfErr, IfSome, IfNone, string_bytes};
 ghost use Rattle.cargo_platform.specs.Trees.{condition_of};
@@ -8,23 +8,23 @@ ghost use Rattle.input_limits.specs.Limits.{IsDeepAt, IsShallow, IsWhyUnread, de
 use cargo_platform::{ParseError, Platform, ReadError, nesting_beyond};
 use std::alloc::{AllocError, Global};
 
-/// The most groups of a key that may lie in one another. Matching, printing and comparing take at most 48 bytes of
-/// stack for a group that members follow, and so less than 5 MB for so many; a main thread has 8 MiB.
+/// The greatest depth to which the groups of a key may be nested. Matching, printing and comparing need at most 48
+/// bytes of stack for a group that members follow, and so less than 5 MB for this depth. A main thread has 8 MiB.
 pub const MOST_GROUPS: usize = 100_000;
 
-/// Why a key has no condition.
+/// Why a key is not accepted as a condition.
 #[derive(Drop)]
 pub enum KeyError {
-    /// More than `MOST_GROUPS` of its groups lie in one another, the first time with the parenthesis at this byte.
+    /// Its groups are nested deeper than `MOST_GROUPS`, from the parenthesis at this byte on.
     Deep(usize),
-    /// It is not so deep, and spells no condition.
+    /// It is nested no deeper than that, and is not a condition.
     Parse(ParseError),
     Memory(AllocError),
 }
 
-/// The place in bytes of the parenthesis with which more than `MOST_GROUPS` groups of a key are open for the first
-/// time, or `None` where it is nested no deeper. The parenthesis of `cfg(` is no group, and is not counted as one. The
-/// key is gone through once, and nothing recurs.
+/// Returns the byte position of the first parenthesis at which more than `MOST_GROUPS` groups of a key are open, or
+/// `None` if it is nested no deeper. The parenthesis of `cfg(` does not open a group. The key is read once, without
+/// recursion.
 pub fn deep_at(key: &str) -> Option<usize>
     ensures deep { IfSome result (λ at. IsDeepAt key.now at) }
     ensures shallow { IfNone result (IsShallow key.now) }
@@ -32,8 +32,10 @@ pub fn deep_at(key: &str) -> Option<usize>
     nesting_beyond(key, MOST_GROUPS + 1)
 }
 
-/// The condition of a key that is nested no deeper than `MOST_GROUPS`: a target's name, or `cfg(..)` of an expression.
-/// It is read by `Platform::from_str`, and so is the fault of a refused key that is nested no deeper.
+/// Parses a key, which is a target's name or `cfg(..)` around an expression.
+///
+/// Returns `KeyError::Deep` if it is nested deeper than `MOST_GROUPS`. Otherwise it returns what `Platform::from_str`
+/// returns: the condition, `KeyError::Parse` with the fault, or the failure of an allocation.
 pub fn read_key(alloc: Global, key: &str) -> Result<Platform, KeyError>
     ensures condition { IfOk result (λ p. IsConditionText key.now (condition_of p)) }
     ensures shallow { IfOk result (λ _. IsShallow key.now) }
@@ -49,7 +51,7 @@ pub fn read_key(alloc: Global, key: &str) -> Result<Platform, KeyError>
     }
 }
 
-/// What is said of a key that is too deep from this byte on.
+/// Returns the message about a key that is nested too deeply from this byte on.
 pub fn deep_text(alloc: Global, at: usize) -> Result<String, AllocError>
     ensures { IfOk result (λ text. string_bytes text ≡ deep_text at) }
 {

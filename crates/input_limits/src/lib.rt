@@ -1,5 +1,5 @@
-//! Limits of what programs read: keys that are not nested too deep for a stack of 8 MiB, and texts of so many bytes at
-//! most, so that what never ends is refused.
+//! The limits of what programs read: how deeply a key may be nested for a stack of 8 MiB, and how many bytes an input
+//! may have, so that an endless input is rejected.
 #![tactic(auto)]
 
 mod keys;

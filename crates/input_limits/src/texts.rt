@@ -1,4 +1,4 @@
-//! Texts that are read to a limit, so that what never ends is refused.
+//! Reads texts up to a limit, so that an endless input is rejected.
 
 ghost use Rattle.std.specs.Prelude.{◌≡◌, ◌≤◌, IfOk, IfErr, IfSome, Some, string_len, string_bytes};
 ghost use Rattle.std.specs.IoError.{error_kind};
@@ -9,22 +9,22 @@ use std::fs::File;
 use std::io::{self, ErrorKind, Read};
 use std::rt::Files;
 
-/// How many bytes of an input are read at most, where nothing else is said: 64 MiB.
+/// The greatest number of bytes of an input, unless another limit is given: 64 MiB.
 pub const LIMIT: u64 = 67_108_864;
 
-/// What stands for standard input.
+/// The path that means standard input.
 pub const INPUT: &str = "-";
 
-/// An input that can't be used, and why, both as they are shown.
+/// An input that can't be used, and the reason, both as they are printed.
 #[derive(Drop)]
 pub struct Unusable {
-    /// The file; none where no file is at fault.
+    /// The file, or `None` if the reason is about no file.
     pub file: Option<String>,
     pub reason: String,
 }
 
 impl Unusable {
-    /// A file, named as it is shown, that was read to this limit and refused.
+    /// Creates the error for a file that was read to this limit and rejected. `file` is its name as it is printed.
     pub fn refused(
         alloc: Global,
         file: String,
@@ -41,7 +41,7 @@ impl Unusable {
         })
     }
 
-    /// What is said of it, on a line.
+    /// Returns the message, as one line.
     pub fn line(&self, alloc: Global) -> Result<String, AllocError> {
         let reason = self.reason.as_str();
         match &self.file {
@@ -54,7 +54,7 @@ impl Unusable {
     }
 }
 
-/// The text that these bytes are, all of them. It refuses more of them than the limit, and fewer that are no UTF-8.
+/// Returns the bytes as a text. Fails if there are more than the limit, and else if they are not UTF-8.
 fn text_of(bytes: Vec<u8>, limit: u64) -> io::Result<String>
     ensures text { IfOk result (λ text. string_bytes text ≡ bytes.items) }
     ensures within { IfOk result (λ text. string_len text ≤ limit) }
@@ -69,8 +69,7 @@ fn text_of(bytes: Vec<u8>, limit: u64) -> io::Result<String>
     }
 }
 
-/// The text of a reader, the whole of it. It refuses one of more bytes than the limit, what is no UTF-8, and what can't
-/// be read.
+/// Reads the whole text of a reader. Fails if it has more bytes than the limit, is not UTF-8, or can't be read.
 pub fn text_within<R: Read + Drop>(alloc: Global, reader: R, limit: u64) -> io::Result<String>
     ensures within { IfOk result (λ text. string_len text ≤ limit) }
     ensures whole { IfOk result (λ text. IfSome (R.remaining reader) (λ left. string_bytes text ≡ left)) }
@@ -82,14 +81,14 @@ pub fn text_within<R: Read + Drop>(alloc: Global, reader: R, limit: u64) -> io::
     text_of(bytes, limit)
 }
 
-/// The text of the file at a path, as `text_within` reads it.
+/// Reads the file at a path as `text_within` does.
 pub fn file_within<R: Files + AllocGlobal>(rt: &R, path: &str, limit: u64) -> io::Result<String>
     ensures { IfOk result (λ text. string_len text ≤ limit) }
 {
     text_within(rt.alloc(), File::open(rt, path)?, limit)
 }
 
-/// The text of the file at a path, or of standard input where the path is `-`, as `text_within` reads it.
+/// Reads the file at a path, or standard input if the path is `-`, as `text_within` does.
 pub fn given_within<R: Files + Input + AllocGlobal>(
     rt: &R,
     path: &str,
@@ -104,12 +103,12 @@ pub fn given_within<R: Files + Input + AllocGlobal>(
     }
 }
 
-/// The text without a mark of the byte order, which some editors write before it.
+/// Returns the text without a byte order mark, which some editors write before it.
 pub fn without_mark(text: &str) -> &str {
     text.strip_prefix("\u{FEFF}").unwrap_or(text)
 }
 
-/// What is said of a text that was read to this limit and refused.
+/// Returns the reason why a text was rejected that was read to this limit.
 pub fn reason_of(alloc: Global, error: &io::Error, limit: u64) -> Result<String, AllocError>
     ensures { IfOk result (λ text. IsReason (error_kind error.now) limit (string_bytes text)) }
 {

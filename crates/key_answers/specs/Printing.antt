@@ -15,6 +15,6 @@ code_of status.Fine = 0
 code_of status.Found = 1
 code_of status.Unusable = 2
 
--- what is said of a key that is too deep
+-- a statement about a key that is too deep
 abbrev pub deep_key : ℕ → List ℕ
 deep_key at = codes "error: the key is " ++ deep_text at ++ codes "\n"

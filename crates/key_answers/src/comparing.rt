@@ -24,6 +24,7 @@ pub enum Relation {
 /// The maximal number of target names in a line.
 const SHOWN: usize = 3;
 
+/// All relations, in the order in which they are printed.
 pub const RELATIONS: [Relation; 4] = [
     Relation::Implies,
     Relation::ImpliedBy,

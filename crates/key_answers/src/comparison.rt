@@ -24,7 +24,7 @@ struct Verdict<'a> {
     answer: &'static str,
     /// With `no`, the facts of a target on which it is false.
     facts: Option<Vec<String>>,
-    /// With `no`, the name of that target. Null stands for any name that is not one of the keys.
+    /// With `no`, the name of that target. Null means any name that is not one of the keys.
     target: Option<&'a str>,
 }
 

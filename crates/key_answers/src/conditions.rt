@@ -11,7 +11,7 @@ use cargo_platform::Platform;
 use input_limits::KeyError;
 use std::alloc::Global;
 
-/// Reads a key, which must not be nested too deep. Fails with a message if it is invalid.
+/// Reads a key, which must not be nested too deeply. Fails with a message if it is invalid.
 pub fn read_key(alloc: Global, key: &str) -> Result<Platform, Refusal>
     ensures condition { IfOk result (λ p. IsConditionText key.now (condition_of p)) }
     ensures shallow { IfOk result (λ _. IsShallow key.now) }

@@ -6,7 +6,7 @@ use Rattle.std.specs.Str.{str_eq_ignore_ascii_case}
 use Rattle.known_licences.specs.declared.table.TheConstants.{FIRST_LICENCES, OTHER_LICENCES, EXCEPTIONS}
 use Rattle.known_licences.specs.declared.table.TheConstants.{DEPRECATED}
 
--- names apart from where they lie in memory
+-- names, whatever their place in memory
 abbrev pub names_of : List (Bor (List ℕ)) → List (List ℕ)
 names_of names = map (λ name. name.now) names
 

@@ -59,7 +59,7 @@ fn nearer(first: Option<Near>, other: Option<Near>) -> Option<Near>
 ///
 /// # Errors
 ///
-/// Fails if memory is refused.
+/// Fails if an allocation fails.
 pub fn nearest_licence(alloc: Global, text: &str) -> Result<Option<&'static str>, AllocError>
     ensures { IfOk result (λ found. IfSome found (λ name. IsNear licences text.now name.now)) }
 {
@@ -75,7 +75,7 @@ pub fn nearest_licence(alloc: Global, text: &str) -> Result<Option<&'static str>
 ///
 /// # Errors
 ///
-/// Fails if memory is refused.
+/// Fails if an allocation fails.
 pub fn nearest_exception(alloc: Global, text: &str) -> Result<Option<&'static str>, AllocError>
     ensures { IfOk result (λ found. IfSome found (λ name. IsNear exceptions text.now name.now)) }
 {

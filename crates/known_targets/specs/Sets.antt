@@ -17,7 +17,7 @@ abbrev pub place_where : Bool → ℕ → List ℕ → List ℕ
 place_where true k ks = k ∷ ks
 place_where false k ks = ks
 
--- the places of the members among so many from k on, in order
+-- the places of the members among this many from k on, in order
 unfoldable pub members_among : ℕ → TargetSet → ℕ → List ℕ
 members_among zero set k = []
 members_among (suc n) set k = place_where (is_member set k) k (members_among n set (k + 1))

@@ -1,4 +1,5 @@
-//! Classes of known targets that some sets do not tell apart, and conditions that are true on the targets of a set.
+//! Classes of known targets that some sets do not distinguish, and conditions that are true on exactly the targets of a
+//! set.
 
 mod covers;
 mod exact;

@@ -19,12 +19,12 @@ use crate::walk::true_at;
 use cargo_platform::{Cfg, Platform};
 use std::alloc::{AllocError, Global};
 
-/// Returns the targets on which the condition is true, by their names and facts.
+/// Returns the known targets on which the condition is true, by their names and facts.
 ///
-/// It goes over the expression once, with a set of targets for each part, and without recursion. Fails only where
-/// memory runs out. A condition that holds at no known target may hold at one that rustc does not know.
+/// It goes over the expression once, with a set of targets for each part, and without recursion. Fails only if an
+/// allocation fails. A condition that is true on no known target may be true on a target that rustc does not know.
 pub fn matching(alloc: Global, platform: &Platform) -> Result<TargetSet, AllocError>
-    // A target is in the set exactly if the condition holds there.
+    // A target is in the set exactly if the condition is true on it.
     ensures { IfOk result (λ set. (k : ℕ) → k < COUNT → IsTrue (is_member set k)
         ↔ IsTrueCondition (target_name k) (target_facts k) (condition_of platform.now)) }
 {
@@ -32,12 +32,12 @@ pub fn matching(alloc: Global, platform: &Platform) -> Result<TargetSet, AllocEr
     taken_at(alloc, platform, &open_keys, false)
 }
 
-/// Returns the targets on which the condition is true, whatever the facts of these names and keys are.
+/// Returns the known targets on which the condition is true, whatever the facts of these names and keys are.
 ///
-/// A name in `open_keys` leaves open whether the name alone is a fact, and each value of it as a key. With `loom` in
-/// it, neither `cfg(loom)` nor `cfg(not(loom))` holds anywhere for certain. A fact counts by its name or key without
-/// the raw mark. The truth is that of Kleene's strong logic, which takes each fact by itself: `any(loom, not(loom))` is
-/// not certain either. Fails only where memory runs out.
+/// A name in `open_keys` leaves open whether the name alone is a fact, and each of its values if it is a key. With
+/// `loom` in it, neither `cfg(loom)` nor `cfg(not(loom))` is certain on any target. The raw marks of names and keys
+/// play no part. The truth is that of Kleene's strong logic, which considers each fact by itself:
+/// `any(loom, not(loom))` is not certain either. Fails only if an allocation fails.
 pub fn certainly_matching(
     alloc: Global,
     platform: &Platform,
@@ -47,7 +47,8 @@ pub fn certainly_matching(
     ensures exact { IfOk result (λ set. (k : ℕ) → k < COUNT → IsTrue (is_member set k)
         ↔ (kleene_condition (Some (target_name k)) (open_told (target_facts k) (names_of open_keys.now))
         (condition_of platform.now) ≡ Some true)) }
-    // At a target in the set, the condition holds over each set of facts that is the target's but for open ones.
+    // On a target in the set, the condition is true over each set of facts that differs from the target's only in open
+    // facts.
     ensures sound { IfOk result (λ set. (k : ℕ) (s : FactSet) → k < COUNT → IsTrue (is_member set k)
         → IsSameButOpen (target_facts k) (names_of open_keys.now) s
         → IsTrueCondition (target_name k) s (condition_of platform.now)) }
@@ -58,7 +59,7 @@ pub fn certainly_matching(
 /// Returns the targets on which the condition may be true, as the facts of these names and keys are.
 ///
 /// At a target that is not in the set the condition does not hold, whatever those facts are. `open_keys` is as for
-/// `certainly_matching`. Fails only where memory runs out.
+/// `certainly_matching`. Fails only if an allocation fails.
 pub fn possibly_matching(
     alloc: Global,
     platform: &Platform,
@@ -68,7 +69,8 @@ pub fn possibly_matching(
     ensures exact { IfOk result (λ set. (k : ℕ) → k < COUNT → (is_member set k ≡ false)
         ↔ (kleene_condition (Some (target_name k)) (open_told (target_facts k) (names_of open_keys.now))
         (condition_of platform.now) ≡ Some false)) }
-    // A target is in the set where the condition holds over some set of facts that is the target's but for open ones.
+    // A target is in the set if the condition is true over some set of facts that differs from the target's only in
+    // open facts.
     ensures sound { IfOk result (λ set. (k : ℕ) (s : FactSet) → k < COUNT
         → IsSameButOpen (target_facts k) (names_of open_keys.now) s
         → IsTrueCondition (target_name k) s (condition_of platform.now) → IsTrue (is_member set k)) }

@@ -28,13 +28,13 @@ pub struct KnownFact {
 
 /// Returns each fact that some known target has, once, in the order of `Cfg`, with the targets that have it.
 ///
-/// No known target has a fact that is not among them. Fails only where memory runs out.
+/// No known target has a fact that is not among them. Fails only if an allocation fails.
 pub fn all_facts(alloc: Global) -> Result<Vec<KnownFact>, AllocError>
-    // The facts are sorted, and each stands once.
+    // The facts are sorted, and each occurs once.
     ensures sorted { IfOk result (λ facts. IsStrictlySortedBy value_cmp (fact_values facts.items)) }
     // Each fact has exactly the targets that have it, and some do.
     ensures each { IfOk result (λ facts. All (IsFactOf table_keys) facts.items) }
-    // Each fact of a known target is there.
+    // The list has each fact of a known target.
     ensures all { IfOk result (λ facts. (k : ℕ) → k < COUNT
         → HasAllFacts (target_facts k) (fact_set (fact_values facts.items))) }
 {
@@ -80,7 +80,7 @@ fn add_pairs(
     Ok(())
 }
 
-/// Appends the fact with its targets, where it has some.
+/// Appends the fact with its targets, if it has any.
 fn add(keys: &[Key], fact: Cfg, facts: &mut Vec<KnownFact>) -> Result<(), AllocError>
     ensures values { OnOk result (fact_values facts.new.items
         ≡ fact_values facts.old.items ++ filter (is_had (keys_of keys.now)) (value_of fact ∷ [])) }

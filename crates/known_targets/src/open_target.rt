@@ -22,12 +22,12 @@ impl<'a> Knowledge for OpenTarget<'a> {
     ghost use Rattle.known_targets.specs.Table.{target_facts};
     ghost use Rattle.known_targets.specs.Open.{open_told, IsSameButOpen, open_possible, open_sound};
 
-    // An open target allows the sets of facts that are the target's but for open ones.
+    // An open target allows the sets of facts that differ from the target's only in open facts.
     ghost allows = { λ k s. IsSameButOpen (target_facts (place k.target)) (names_of k.open_keys.now) s };
 
     ghost example = { λ k. target_facts (place k.target) };
 
-    // It tells of each pair that is not open whether the target has it.
+    // It decides each pair that is not open, by whether the target has it.
     ghost told = { λ k p. open_told (target_facts (place k.target)) (names_of k.open_keys.now) p };
 
     fn tells(&self, c: &Cfg) -> Option<bool> {

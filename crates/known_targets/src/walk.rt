@@ -113,7 +113,7 @@ fn all_or_none(are_in: bool) -> Bounds
     }
 }
 
-/// Returns the targets that have the fact; where it is open, any may.
+/// Returns the targets that have the fact for certain, and those that may have it. If it is open, any target may.
 fn told_to_have(keys: &[Key], open_keys: &[&str], c: &Cfg) -> Bounds
     ensures { AreBounds (keys_of keys.now) (names_of open_keys.now) (Value (value_of c.now)) result }
 {

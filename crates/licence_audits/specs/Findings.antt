@@ -1,4 +1,4 @@
--- What is found of a licence text, over a list of allowed licences.
+-- The finding about a licence text, over a list of allowed licences.
 use Rattle.std.specs.Prelude.{◌≡◌, ℕ, Bool, true, false, List, Option, Some, None, string_bytes}
 use Rattle.std.specs.Option.{IsSomeAnd}
 use Rattle.spdx_expressions.specs.Trees.{Term, Tree, Piece}
@@ -9,11 +9,11 @@ use Rattle.spdx_expressions.specs.declared.error.ParseError.{ParseError}
 use Rattle.licence_audits.specs.declared.findings.Finding.{Finding}
 use Rattle.licence_audits.specs.declared.findings.Finding.TheVariants.{NotAllowed, Missing, Refused}
 
--- the text spells a tree, which the list satisfies or does not
+-- the text spells a tree, and whether the list satisfies it
 abbrev pub IsJudged : List Term → List ℕ → Bool → Type 0
 IsJudged allowed text b = (t : Tree) × IsTreeText text t × (truth (is_allowed allowed) t ≡ b)
 
--- the same, where the list does not satisfy it, with the parts of the text
+-- the list does not satisfy the tree, and these are the parts of the text
 abbrev pub IsUnsatisfied : List Term → List ℕ → List Piece → Type 0
 IsUnsatisfied allowed text ps =
     (t : Tree) × IsTreeText text t × Spells 0 t ps × (truth (is_allowed allowed) t ≡ false)
@@ -29,7 +29,7 @@ IsFound allowed license (NotAllowed e) = IsSomeAnd license (λ text. IsUnsatisfi
 IsFound allowed license Missing = license ≡ None
 IsFound allowed license (Refused e) = IsSomeAnd license (λ text. IsRefused text e)
 
--- nothing, where the list satisfies what the text spells
+-- nothing if the list satisfies the tree that the text spells, and otherwise the reason
 abbrev pub HasFinding : List Term → Option (List ℕ) → Option Finding → Type 0
 HasFinding allowed license None = IsSomeAnd license (λ text. IsJudged allowed text true)
 HasFinding allowed license (Some found) = IsFound allowed license found

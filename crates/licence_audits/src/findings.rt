@@ -1,4 +1,4 @@
-//! What is found of one licence text.
+//! Judges one licence text.
 
 ghost use Rattle.std.specs.Prelude.{IfOk, map, option_map};
 ghost use Rattle.spdx_expressions.specs.Trees.{term_of};
@@ -7,18 +7,19 @@ ghost use Rattle.licence_audits.specs.Findings.{HasFinding};
 use spdx_expressions::{Licence, LicenceExpression, ParseError, ReadError};
 use std::alloc::{AllocError, Global};
 
-/// What is found of a licence that the list of allowed ones does not satisfy.
+/// Why the list of allowed licences does not satisfy a package's licence.
 #[derive(Debug, Drop)]
 pub enum Finding {
-    /// The text is an expression, and the list does not satisfy it.
+    /// The text is an expression that the list does not satisfy.
     NotAllowed(LicenceExpression),
-    /// There is no text.
+    /// The package has no licence text.
     Missing,
-    /// The text is no expression. This is its fault.
+    /// The text is not an expression, because of this fault.
     Refused(ParseError),
 }
 
-/// What is found of a licence text: nothing exactly where it is an expression that the list satisfies.
+/// Judges a licence text. Returns `None` exactly if it is an expression that the list satisfies. Fails only if an
+/// allocation fails.
 pub fn judge(
     alloc: Global,
     license: Option<&str>,

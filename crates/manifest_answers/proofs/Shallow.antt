@@ -1,4 +1,4 @@
--- Keys that are gone over, one after another, and none of them is nested too deep.
+-- Keys that are visited, one after another, and none of them is nested too deep.
 use Rattle.std.proofs.Common.{◌≡◌, ◌∙◌, sym, ap, subst, ℕ, ◌+◌, ◌<◌, ◌≤◌, List, [], ◌∷◌, map, take, length, get_or}
 use Rattle.std.specs.List.{All}
 use Rattle.std.proofs.lemmas.List.{take_all, take_more, map-append}

@@ -7,7 +7,7 @@ use Rattle.manifests.specs.Entries.{Entry}
 abbrev pub IsShallowEntry : Entry → Type 0
 IsShallowEntry e = IsShallow e.0
 
--- what stands at `target`: where it is a table, each of its keys is nested no deeper than a key may be
+-- what is at `target`: where it is a table, each of its keys is nested no deeper than a key may be
 abbrev pub HasNoDeepKey : Option (Option (List Entry)) → Type 0
 HasNoDeepKey (Some (Some es)) = All IsShallowEntry es
 HasNoDeepKey (Some None) = Unit {0}

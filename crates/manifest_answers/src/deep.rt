@@ -1,4 +1,4 @@
-//! Keys of a manifest that are nested too deep.
+//! Keys of a manifest that are nested too deeply.
 
 ghost use Rattle.std.specs.Prelude.{IfOk, IfSome, IfNone, map};
 ghost use Rattle.std.specs.List.{All};
@@ -15,7 +15,7 @@ use manifests::{TargetKey, Targets, target_keys};
 use std::alloc::{AllocError, Global};
 use toml::Table;
 
-/// A key that is nested too deep.
+/// A key that is nested too deeply.
 #[derive(Drop)]
 pub struct DeepKey {
     /// The path of the manifest, with the number of the line on which the key first appears.
@@ -30,7 +30,7 @@ pub struct DeepKey {
 }
 
 impl DeepKey {
-    /// What is said of it, on a line.
+    /// Formats the key and why it is rejected, on a line of its own.
     pub fn line(&self, alloc: Global) -> Result<String, AllocError> {
         let place = self.place.as_str();
         let reason = self.reason.as_str();
@@ -38,7 +38,7 @@ impl DeepKey {
     }
 }
 
-/// The first of the keys that is nested too deep, and the byte from which on it is.
+/// Returns the first of the keys that is nested too deeply, and the byte from which on it is.
 fn deep_of<'a>(keys: &[TargetKey<'a>]) -> Option<(&'a str, usize)>
     ensures deep { IfSome result (λ found. IsDeepAt found.0.now found.1) }
     ensures shallow { IfNone result (All IsShallowEntry (map entry_of keys.now)) }
@@ -51,7 +51,7 @@ fn deep_of<'a>(keys: &[TargetKey<'a>]) -> Option<(&'a str, usize)>
     None
 }
 
-/// The key of the manifest that is too deep from this byte on.
+/// Describes the key of the manifest, which is nested too deeply from this byte on.
 fn deep_key(
     alloc: Global,
     manifest: &Manifest,
@@ -78,7 +78,7 @@ fn deep_key(
     })
 }
 
-/// Whether a key of the manifest with this table is nested too deep.
+/// Returns whether some key of the manifest with this table is nested too deeply.
 pub fn has_deep(alloc: Global, manifest: &Table) -> Result<bool, AllocError> {
     match target_keys(alloc, manifest)? {
         Targets::Keys(keys) => Ok(deep_of(&keys).is_some()),
@@ -86,7 +86,8 @@ pub fn has_deep(alloc: Global, manifest: &Table) -> Result<bool, AllocError> {
     }
 }
 
-/// The first key of a manifest, in the order of their bytes, that is nested too deep; or `None` where none is.
+/// Returns the first key of a manifest, in the order of their bytes, that is nested too deeply, or `None` if there is
+/// none.
 pub fn first_deep(alloc: Global, manifest: &Manifest) -> Result<Option<DeepKey>, AllocError>
     ensures { IfOk result
         (λ found. IfNone found (HasNoDeepKey (target_of (table_view manifest.now.document.table)))) }

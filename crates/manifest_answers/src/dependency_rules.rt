@@ -273,7 +273,7 @@ fn bad_fields(
 /// Returns why Cargo rejects a dependency, as a phrase. Returns `None` if it takes it. What the root of its workspace
 /// declares has been put in place of what it inherits.
 ///
-/// Fails only where memory runs out.
+/// Fails only if an allocation fails.
 pub fn rejected_dependency(
     alloc: Global,
     ruled: &Ruled<'_>,

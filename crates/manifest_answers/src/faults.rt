@@ -1,4 +1,4 @@
-//! What can't be used, as `select` tells it: on lines, or as one object a line.
+//! The errors of `select`: as lines for people, or as one JSON object on each line.
 
 use cargo_platform::ParseError;
 use input_limits::Unusable;
@@ -7,7 +7,7 @@ use key_answers::json_lines;
 use serde::Serialize;
 use std::alloc::{AllocError, Global};
 
-/// The target of a selection, and how what can't be used is told.
+/// The target of a selection, and the format of its errors.
 #[derive(Clone, Copy, Drop)]
 pub struct Asking<'a> {
     /// The name of the target, if it is the only one.
@@ -19,7 +19,7 @@ pub struct Asking<'a> {
 /// Why a manifest, or what a command line says beside manifests, can't be used.
 #[derive(Clone, Copy, Drop)]
 pub struct Fault<'a, 'm> {
-    /// The path of the manifest, as it is shown; none where no manifest is at fault.
+    /// The path of the manifest as it is printed, or `None` if the error is not about a manifest.
     pub manifest: Option<&'a str>,
     /// The key of `target` that is at fault.
     pub key: Option<&'a str>,
@@ -31,7 +31,7 @@ pub struct Fault<'a, 'm> {
 }
 
 impl<'a, 'm> Fault<'a, 'm> {
-    /// The fault on no key.
+    /// Creates the error for something other than a key.
     pub fn of(manifest: Option<&'a str>, message: &'m str) -> Fault<'a, 'm> {
         Fault {
             manifest,
@@ -43,7 +43,7 @@ impl<'a, 'm> Fault<'a, 'm> {
     }
 }
 
-/// The beginning and the end of the fault in a key, in bytes.
+/// Returns the first byte of the error in a key, and the byte after its last one.
 pub fn span_of(key: &str, error: &ParseError) -> Option<(usize, usize)> {
     let span = error.span_in(key)?;
     Some((span.start, span.end))
@@ -72,7 +72,7 @@ struct SelectionError<'a> {
 }
 
 impl<'a> Asking<'a> {
-    /// The line of JSON that tells a fault.
+    /// Formats an error as a line of JSON.
     fn told(&self, alloc: Global, fault: &Fault<'a, 'a>) -> Result<String, AllocError> {
         let error = Cause {
             key: fault.key,
@@ -90,7 +90,7 @@ impl<'a> Asking<'a> {
         Ok(text)
     }
 
-    /// The answer that tells a fault: these lines, or an object.
+    /// Returns the answer that reports an error: these lines, or a JSON object.
     pub fn tell(
         &self,
         alloc: Global,
@@ -103,14 +103,14 @@ impl<'a> Asking<'a> {
         Ok(Answer::of(alloc, self.told(alloc, fault)?, Status::Unusable))
     }
 
-    /// The answer that tells what these lines say of the words of a command line.
+    /// Returns the answer that reports what these lines say about the arguments of a command line.
     pub fn tell_words(&self, alloc: Global, lines: &str) -> Result<Answer, AllocError> {
         let message = lines.strip_prefix("error: ").unwrap_or(lines);
         let message = message.strip_suffix("\n").unwrap_or(message);
         self.tell(alloc, &Fault::of(None, message), lines)
     }
 
-    /// The answer that tells an input that can't be used.
+    /// Returns the answer that reports an input that can't be used.
     fn tell_unusable(&self, alloc: Global, unusable: &Unusable) -> Result<Answer, AllocError> {
         let line = unusable.line(alloc)?;
         let file = unusable.file.as_ref().map(|file: &String| file.as_str());
@@ -118,7 +118,7 @@ impl<'a> Asking<'a> {
         self.tell(alloc, &fault, line.as_str())
     }
 
-    /// The answer that tells inputs that can't be used, in their order.
+    /// Returns the answer that reports inputs that can't be used, in their order.
     pub fn tell_each(&self, alloc: Global, unusable: &[Unusable]) -> Result<Answer, AllocError> {
         let mut whole = Answer::of(alloc, String::new(alloc), Status::Fine);
         for it in unusable {

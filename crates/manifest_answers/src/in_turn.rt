@@ -19,7 +19,7 @@ pub trait Question {
     /// Returns whether the query needs the lines of keys.
     fn asks_for_lines(&self) -> bool;
 
-    /// Adds the answer on a manifest whose keys are not nested too deep. Cargo may reject something beside its keys.
+    /// Adds the answer on a manifest whose keys are not nested too deeply. Cargo may reject something beside its keys.
     fn add_answer(
         &mut self,
         alloc: Global,

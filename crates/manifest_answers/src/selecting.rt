@@ -91,7 +91,7 @@ fn push_shown(text: &mut String, alloc: Global, name: &str) -> Result<(), AllocE
     text.push_str(shown_start(alloc, name)?.as_str())
 }
 
-/// Appends the condition that is left to ask, as it is shown after the word for the choice.
+/// Appends the condition that remains to be decided, as it is printed after the word for the choice.
 fn push_residual(text: &mut String, alloc: Global, choice: &Choice) -> Result<(), AllocError> {
     if let Some(key) = residual(alloc, choice)? {
         text.push_str(" where ")?;
@@ -141,7 +141,7 @@ fn push_line(
     text.push_str("\n")
 }
 
-/// Appends the lines of dependencies. Most stand in the table of the one before.
+/// Appends the lines of dependencies. Most are in the same table as the one before.
 fn push_lines(
     text: &mut String,
     alloc: Global,
@@ -171,7 +171,7 @@ struct SelectedDependency<'a> {
     features: Vec<&'a str>,
     /// The key of `target`; null outside of `target`.
     key: Option<&'a str>,
-    /// The line on which that key first stands.
+    /// The line on which that key first appears.
     line: Option<usize>,
     /// The path of the manifest.
     manifest: &'a str,
@@ -534,7 +534,7 @@ impl<'a> Host<'a> {
     }
 }
 
-/// Appends what is said of the names that are left open, and for which no key asks.
+/// Appends the messages about names that are left open and that no key uses.
 fn add_unasked(answer: &mut Answer, alloc: Global, opened: &OpenNames) -> Result<(), AllocError> {
     let unasked = opened.unasked(alloc)?;
     answer.errors.push_str(unasked.as_str())

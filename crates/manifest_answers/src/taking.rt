@@ -71,7 +71,7 @@ fn document_at<R: Files + Input + AllocGlobal>(
 /// Returns the manifest that is named, with the lines of its keys where they are asked for, or a key is too deep. It is
 /// taken from the documents, if it is among them, and else read.
 ///
-/// Fails where it can't be used.
+/// Fails if it can't be used.
 pub fn manifest_at<R: Files + Input + AllocGlobal>(
     rt: &R,
     documents: &mut Documents,
@@ -133,7 +133,7 @@ fn inherit<R: Files + Env + AllocGlobal>(
 /// Returns the manifest that is named, as `manifest_at` does, with what it inherits from the root of its workspace in
 /// its place, and what Cargo rejects in it.
 ///
-/// Fails where it can't be used.
+/// Fails if it can't be used.
 pub fn taken_at<R: Files + Input + Env + AllocGlobal>(
     rt: &R,
     documents: &mut Documents,

@@ -85,7 +85,7 @@ next : (keys : List TargetKey) (i : ℕ) (d : TargetKey) → i < length keys
     → drop i keys ≡ get_or keys i d ∷ drop (i + 1) keys
 next keys i d within = rw add-one (drop-cons keys i d within)
 
--- the keys before a place, the one at it, and those behind
+-- the keys before a place, the one at it, and those after
 parts : (keys : List TargetKey) (i : ℕ) (d : TargetKey) → i < length keys
     → map entry_of keys ≡ map entry_of (take i keys) ++ entry_of (get_or keys i d) ∷ map entry_of (drop (i + 1) keys)
 parts keys i d within =

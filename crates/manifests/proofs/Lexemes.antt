@@ -10,7 +10,7 @@ use Rattle.cargo_platform.specs.Cut.{Item, Token, Lexical, Nothing, Comes, Comes
 use Rattle.cargo_platform.specs.Reading.{Progress, NextCall, Gives, given}
 use Rattle.manifests.specs.Declarations.{HasTokens, lexemes_in}
 
--- these tokens were read up to a place of the text, without a fault, and whatever comes from there on comes behind them
+-- these tokens were read up to a place of the text, without a fault, and whatever comes from there on comes after them
 pub record HasRead (text : List ℕ) (p : Progress) (tokens : List tokens.Token) : Type 0 where
   pub same : p.text ≡ text
   pub going : p.failed ≡ false
@@ -58,7 +58,7 @@ one_read text p q s old new h call is =
           ));
     }
 
--- behind the last token comes what the last call gave
+-- after the last token comes what the last call gave
 ended : (text : List ℕ) (p q : Progress) (tokens : List tokens.Token) (last : Item) (h : HasRead text p tokens)
     → Gives p q last → ComesBehind text 0 h.ts last q.place
 ended text p q tokens last h g =

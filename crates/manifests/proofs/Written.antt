@@ -225,7 +225,7 @@ read true texts any none (Ident false word ∷ LeftParen ∷ RightParen ∷ ls) 
     one_word texts any none ls d word _ _ refl refl (read false texts true none ls d) (read false texts any true ls d) h
 read _ _ _ _ _ _ h = absurd cc
 
--- only the second parenthesis is left, maybe behind a comma
+-- only the second parenthesis is left, maybe after a comma
 is_end : (ls : List Lexeme) → is_paren ls ≡ true → RightParen ∷ [] ≡ ls
 is_end (RightParen ∷ []) h = refl
 is_end _ h = absurd cc
@@ -235,7 +235,7 @@ ends_so (Comma ∷ ls) h = (true, ap (λ xs. Comma ∷ xs) (is_end ls h))
 ends_so (RightParen ∷ ls) h = (false, is_end (RightParen ∷ ls) h)
 ends_so _ h = absurd cc
 
--- what is read behind names
+-- what is read after names
 data Read (names : List (List ℕ)) (ls : List Lexeme) (e : DeclaredEntry) : Type 0 where
   alone : (before : List WrittenName) (last : WrittenName)
       → written_names before ++ written_name last ∷ RightParen ∷ [] ≡ ls

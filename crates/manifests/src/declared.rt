@@ -53,8 +53,8 @@ impl<'a> Declared<'a> {
     }
 
     /// Returns the declarations of a manifest: texts of the forms `cfg(NAME, ..)` and `cfg(NAME, .., values(..))` with
-    /// texts, `any()` and `none()` between the parentheses. Texts of other forms declare nothing. Fails if memory is
-    /// refused.
+    /// texts, `any()` and `none()` between the parentheses. Texts of other forms declare nothing. Fails if an
+    /// allocation fails.
     pub fn of(alloc: Global, manifest: &'a Table) -> Result<Declared<'a>, AllocError>
         ensures { IfOk result (λ d. IsDeclaredBy (table_view manifest.now) (declarations_of d)) }
     {

@@ -19,7 +19,7 @@ pub struct Document {
 
 impl Document {
     /// Returns the manifest with this table and the places of names in `text`, from which the table was parsed. Fails
-    /// if memory is refused.
+    /// if an allocation fails.
     pub fn of(alloc: Global, table: Table, text: &str) -> Result<Document, AllocError> {
         Ok(Document {
             table,
@@ -36,7 +36,7 @@ impl Document {
     }
 
     /// Returns the value of `target`: its keys, in the order in which they first appear in the text. Keys for which
-    /// that is not certain come last, in the order of their bytes. Fails if memory is refused.
+    /// that is not certain come last, in the order of their bytes. Fails if an allocation fails.
     pub fn target_keys(&self, alloc: Global) -> Result<Targets<'_>, AllocError>
         ensures { IfOk result (λ found. AreInSomeOrder (target_of (table_view self.now.table)) (target_told found)) }
     {

@@ -83,7 +83,7 @@ fn key_at_front(alloc: Global, text: &str, rest: &str) -> Result<Option<Location
 /// Returns the place of the dotted key with which a path of keys first appears in the text of a manifest: in a header,
 /// before `=`, or in an inline table. Returns `None` if it does not appear, or if an array of tables is above it.
 ///
-/// Fails only where memory runs out.
+/// Fails only if an allocation fails.
 pub fn place_of_path(
     alloc: Global,
     text: &str,

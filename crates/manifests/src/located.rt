@@ -63,7 +63,7 @@ fn at_part(
 }
 
 impl Places {
-    /// Returns the place of a key of `target`, if it is known. Fails if memory is refused.
+    /// Returns the place of a key of `target`, if it is known. Fails if an allocation fails.
     pub fn located_key(&self, alloc: Global, key: &str) -> Result<Option<Location>, AllocError>
         // The place lies in the text, and the text there spells the key.
         ensures { IfOk result (λ found. IfSome found (λ at. IsAtName (string_bytes self.now.text) key.now at)) }
@@ -75,7 +75,7 @@ impl Places {
     }
 
     /// Returns the place of a part of a key of `target`, given as a span in the key, in bytes. Returns `None` if the
-    /// key has no known place, or an escape spells more than the part. Fails if memory is refused.
+    /// key has no known place, or an escape spells more than the part. Fails if an allocation fails.
     pub fn located_part(
         &self,
         alloc: Global,

@@ -33,7 +33,7 @@ pub struct SyntaxError {
 }
 
 impl SyntaxError {
-    /// Returns the manifest and the error on one line. Fails if memory is refused.
+    /// Returns the manifest and the error on one line. Fails if an allocation fails.
     fn unusable(self, alloc: Global) -> Result<Unusable, AllocError> {
         let SyntaxError {
             path,
@@ -67,7 +67,7 @@ pub enum ReadError {
 }
 
 impl ReadError {
-    /// Returns the manifest and why it cannot be read, on one line. Fails if memory is or was refused.
+    /// Returns the manifest and why it cannot be read, on one line. Fails if an allocation fails or failed.
     pub fn unusable(self, alloc: Global) -> Result<Unusable, AllocError> {
         match self {
             ReadError::Unusable(unusable) => Ok(unusable),
@@ -123,7 +123,7 @@ fn syntax_error(
     })
 }
 
-/// Returns the error for a text that is not TOML, or for memory that was refused.
+/// Returns the error for a text that is not TOML, or for an allocation that failed.
 fn no_toml(alloc: Global, path: &str, text: &str, error: &toml::de::Error) -> ReadError {
     let Some(range) = error.span() else {
         return ReadError::Memory(AllocError);
@@ -153,7 +153,7 @@ impl ManifestText {
     }
 
     /// Reads the text of the manifest that an argument names. Fails if it cannot be read, has more than `limit` bytes,
-    /// or memory is refused. A longer text is not read to its end.
+    /// or an allocation fails. A longer text is not read to its end.
     pub fn read<R: Files + Input + AllocGlobal>(
         rt: &R,
         path: &str,
@@ -184,7 +184,7 @@ impl ManifestText {
         without_mark(self.text.as_str())
     }
 
-    /// Parses the text as a TOML table. Fails if it is not TOML, or memory is refused.
+    /// Parses the text as a TOML table. Fails if it is not TOML, or an allocation fails.
     pub fn table(&self, alloc: Global) -> Result<Table, ReadError> {
         match table_from_str(alloc, self.text()) {
             Ok(table) => Ok(table),
@@ -193,7 +193,7 @@ impl ManifestText {
     }
 
     /// Returns the manifest with this table and the lines of its keys, for which the text is read once more. Fails if
-    /// memory is refused.
+    /// an allocation fails.
     pub fn with_lines(self, alloc: Global, table: Table) -> Result<Manifest, AllocError> {
         let document = Document::of(alloc, table, self.text())?;
         Ok(Manifest {
@@ -204,7 +204,7 @@ impl ManifestText {
 }
 
 /// Reads and parses the manifest that an argument names, with the lines of its keys. Fails if it cannot be read, has
-/// more than `limit` bytes, is not TOML, or memory is refused. A longer text is not read to its end.
+/// more than `limit` bytes, is not TOML, or an allocation fails. A longer text is not read to its end.
 pub fn read_manifest<R: Files + Input + AllocGlobal>(
     rt: &R,
     path: &str,

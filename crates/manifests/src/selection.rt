@@ -56,7 +56,7 @@ pub struct Row<'a> {
 /// The reason why a selection fails.
 #[derive(Drop)]
 pub enum SelectError<'a> {
-    /// Memory was refused.
+    /// An allocation failed.
     Memory(AllocError),
     /// `target` is not a table.
     TargetIsNoTable,
@@ -77,7 +77,7 @@ impl<'a> From<AllocError> for SelectError<'a> {
 }
 
 /// Decides a condition for a target with this name and these known facts. Returns its residual if the truth value is
-/// not known. Fails if memory is refused.
+/// not known. Fails if an allocation fails.
 pub fn choose<K: Knowledge>(
     alloc: Global,
     platform: &Platform,
@@ -174,7 +174,7 @@ fn choose_for(
 ///
 /// # Errors
 ///
-/// Fails if `target` or the value of a key is not a table, if a key is not a condition, or if memory is refused.
+/// Fails if `target` or the value of a key is not a table, if a key is not a condition, or if an allocation fails.
 pub fn select<'a>(
     alloc: Global,
     manifest: &'a Table,

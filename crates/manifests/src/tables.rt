@@ -87,7 +87,7 @@ fn member<'a>(table: &'a Table, key: &str) -> Option<&'a Value>
     table.get(key)
 }
 
-/// Returns the value of `target`. Fails if memory is refused.
+/// Returns the value of `target`. Fails if an allocation fails.
 pub fn target_keys<'a>(alloc: Global, manifest: &'a Table) -> Result<Targets<'a>, AllocError>
     ensures { IfOk result (λ found. target_told found ≡ target_of (table_view manifest.now)) }
 {
@@ -100,7 +100,7 @@ pub fn target_keys<'a>(alloc: Global, manifest: &'a Table) -> Result<Targets<'a>
     }
 }
 
-/// Returns the keys of a table with their values. Fails if memory is refused.
+/// Returns the keys of a table with their values. Fails if an allocation fails.
 pub fn keys_of<'a>(alloc: Global, table: &'a Table) -> Result<Vec<TargetKey<'a>>, AllocError>
     ensures { IfOk result (λ keys. map entry_of keys.items ≡ entries_of (table_view table.now)) }
 {
@@ -123,7 +123,7 @@ pub fn table_of(table: &Table, kind: Kind) -> Option<&Value>
 }
 
 /// Returns the dependencies in a table by kind: `dependencies`, `dev-dependencies`, `build-dependencies`. `key` is the
-/// key under `target` that contains the table, if any. Fails if memory is refused.
+/// key under `target` that contains the table, if any. Fails if an allocation fails.
 pub fn dependencies<'a>(
     alloc: Global,
     table: &'a Table,

@@ -50,7 +50,7 @@ pub extern "C" fn nevgrasi_version(out: &mut [u8], outcome: &mut Outcome) -> u32
     outcome.code
 }
 
-/// Writes the canonical text of a key's condition, which spells the same condition.
+/// Writes the canonical text of a key's condition, which is parsed as the same condition.
 #[unsafe(no_mangle)]
 pub extern "C" fn nevgrasi_canonical(
     alloc: Global,

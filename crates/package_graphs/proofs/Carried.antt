@@ -22,7 +22,7 @@ pub carried_kept : (graph : List (List Edge)) (at new : ℕ → ℕ → Bool) (m
 carried_kept graph at new m many grown same h j below d inside k known end here holds =
     grown _ k known (h j below d inside k known end (sym (same k known) ∙ here) holds)
 
--- one more edge is gone over
+-- one more edge is visited
 pub carried_more : (graph : List (List Edge)) (at new : ℕ → ℕ → Bool) (m i : ℕ) (edge : Edge) → Grown at new
     → Same at new m → ((d : Edge) → edge ≡ get_or (edges_from graph m) i d)
     → AreCarried graph at m i → IsCarried (length graph) new m edge → AreCarried graph new m (i + 1)
@@ -69,6 +69,6 @@ along graph roots at m i edge inside is h k known here holds =
 pub read_edge : (es fs : List Edge) (i : ℕ) (e d : Edge) → es ≡ fs → i < length es → get_or es i e ≡ get_or fs i d
 read_edge es fs i e d same below = get_or_default es i e d below ∙ ap (λ (xs : List Edge). get_or xs i d) same
 
--- what stands where nothing was read
+-- the default where nothing was read
 abbrev pub no_edge : Edge
 no_edge = record { to = 0; holds = record { words = [] } }

@@ -22,7 +22,7 @@ pub struct Graph {
 }
 
 impl Graph {
-    /// Returns a graph of `count` nodes without edges. Fails only if memory is refused.
+    /// Returns a graph of `count` nodes without edges. Fails only if an allocation fails.
     pub fn new(alloc: Global, count: usize) -> Result<Graph, AllocError>
         ensures { IfOk result (λ graph. edge_lists graph ≡ replicate count []) }
     {
@@ -48,7 +48,7 @@ impl Graph {
         &self.nodes[from]
     }
 
-    /// Adds an edge that begins at a node. Fails only if memory is refused.
+    /// Adds an edge that begins at a node. Fails only if an allocation fails.
     pub fn add_edge(&mut self, from: usize, edge: Edge) -> Result<(), AllocError>
         requires { from < length (edge_lists self.old) }
         ensures { OnOk result (edge_lists self.new
@@ -58,7 +58,7 @@ impl Graph {
         Ok(())
     }
 
-    /// Adds a node with the edges that begin at it. Fails only if memory is refused.
+    /// Adds a node with the edges that begin at it. Fails only if an allocation fails.
     pub fn push(&mut self, edges: Vec<Edge>) -> Result<(), AllocError>
         ensures { OnOk result (edge_lists self.new ≡ edge_lists self.old ++ edges.items ∷ []) }
     {

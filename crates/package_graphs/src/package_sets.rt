@@ -47,8 +47,8 @@ impl PackageSets {
 /// root.
 ///
 /// Without a host, the condition of each dependency is decided for the target. With one, the conditions of what build
-/// scripts and procedural macros need are decided for the host. A dependency on no package is ignored. Fails only if
-/// memory is refused.
+/// scripts and procedural macros need are decided for the host. A dependency on no package is ignored. Fails only if an
+/// allocation fails.
 pub fn present_packages(
     alloc: Global,
     packages: &[Package],

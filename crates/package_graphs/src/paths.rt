@@ -46,7 +46,7 @@ struct Search<'a> {
 
 /// Returns the steps of a shortest path from a root to the package at index `to`, each along a dependency whose
 /// condition is true on the target. For a root there are no steps. Returns `None` if no path was found. `packages`,
-/// `kinds` and `host` are those of `present_packages`. Fails only if memory is refused.
+/// `kinds` and `host` are those of `present_packages`. Fails only if an allocation fails.
 pub fn shortest_path(
     alloc: Global,
     packages: &[Package],
@@ -74,7 +74,7 @@ pub fn shortest_path(
 }
 
 /// Returns the steps of a shortest path from a root to a package that is built for a side, as `shortest_path` does.
-/// `to` is the index of the package and the side. Fails only if memory is refused.
+/// `to` is the index of the package and the side. Fails only if an allocation fails.
 pub fn shortest_path_on(
     alloc: Global,
     packages: &[Package],

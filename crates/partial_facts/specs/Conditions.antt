@@ -1,4 +1,4 @@
--- What is known of a condition, and what is left of it. The target's name is known or not.
+-- The truth of a condition, and its residual. The target's name may be known or not.
 use Rattle.std.specs.Prelude.{◌≡◌, ℕ, Bool, Option, Some, None, List, bytes_eq}
 use Rattle.cargo_platform.specs.Trees.{Condition, Target, Expression}
 use Rattle.cargo_platform.specs.Facts.{Pair}
@@ -6,7 +6,7 @@ use Rattle.cargo_platform.specs.Sizes.{size, depth}
 use Rattle.partial_facts.specs.Kleene.{kleene}
 use Rattle.partial_facts.specs.Residual.{literal, residual_tree, literal_truth, IsLiteralOrOpen}
 
--- whether a condition's name is the target's
+-- whether the name of a condition is that of the target
 abbrev pub is_target : Option (List ℕ) → List ℕ → Option Bool
 is_target (Some target) name = Some (bytes_eq name target)
 is_target None name = None
@@ -27,7 +27,7 @@ abbrev pub condition_literal_truth : Condition → Option Bool
 condition_literal_truth (Target name) = None
 condition_literal_truth (Expression e) = literal_truth e
 
--- a target name only where the target's is not known
+-- a target name remains only if the target's is not known
 abbrev pub IsLiteralOrOpenCondition : Option (List ℕ) → (Pair → Option Bool) → Condition → Type 0
 IsLiteralOrOpenCondition target told (Target name) = target ≡ None
 IsLiteralOrOpenCondition target told (Expression e) = IsLiteralOrOpen told e

@@ -1,3 +1,3 @@
--- What the contracts of private functions and types cite, and no promise rests on.
+-- Definitions for the contracts of private functions and types. No promise depends on them.
 pub mod Groups
 pub mod Reducing

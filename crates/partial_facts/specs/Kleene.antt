@@ -1,4 +1,5 @@
--- Kleene's strong logic: the truth of a tree where it follows from what is told of its values. `None` is not known.
+-- Kleene's strong logic: the truth of a tree if it follows from what is known of its values. `None` means that it is
+-- not known.
 use Rattle.std.specs.Prelude.{Bool, true, false, not, Option, Some, None}
 use Rattle.cargo_platform.specs.Trees.{Tree, Not, All, Any, Value, True, False, Trees, none, tree}
 use Rattle.cargo_platform.specs.Facts.{Pair, pair_of}
@@ -7,7 +8,7 @@ abbrev pub kleene_not : Option Bool → Option Bool
 kleene_not (Some b) = Some (not b)
 kleene_not None = None
 
--- false where one is, true where both are
+-- false if one is false, true if both are true
 abbrev pub kleene_and : Option Bool → Option Bool → Option Bool
 kleene_and (Some false) y = Some false
 kleene_and (Some true) y = y
@@ -15,7 +16,7 @@ kleene_and None (Some false) = Some false
 kleene_and None (Some true) = None
 kleene_and None None = None
 
--- true where one is, false where both are
+-- true if one is true, false if both are false
 abbrev pub kleene_or : Option Bool → Option Bool → Option Bool
 kleene_or (Some true) y = Some true
 kleene_or (Some false) y = y

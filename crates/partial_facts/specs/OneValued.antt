@@ -1,4 +1,4 @@
--- A target as far as its facts are listed, where some keys have one value at most.
+-- The facts of a target as far as they are listed, if some keys have at most one value.
 use Rattle.std.specs.Prelude.{◌≡◌, ◌⊎◌, ℕ, Bool, true, false, ◌&&◌, ◌||◌, IsTrue, List, [], ◌∷◌, ◌++◌, Option, IfSome}
 use Rattle.std.specs.Prelude.{is_some, map, bytes_eq, Contains}
 use Rattle.std.specs.List.{list_any}
@@ -11,17 +11,17 @@ use Rattle.cargo_platform.specs.Facts.{Pair, FactSet, pair_of, fact_set}
 use Rattle.cargo_platform.proofs.FactTruths.{listed}
 use Rattle.partial_facts.specs.Partly.{is_named, told_by, IsPartlyKnown, partly_possible, sound_by}
 
--- a key that has one value, with a value
+-- a key that has at most one value, with a value
 abbrev pub is_single : List (List ℕ) → Pair → Bool
 is_single single p = is_named p.name single && is_some p.value
 
--- of a key with one value, two different values are facts only where both are listed
+-- for such a key, two different values are facts only if both are listed
 abbrev pub HasOneValue : FactSet → List (List ℕ) → FactSet → Type 0
 HasOneValue listed single s = (p q : Pair) → IsTrue (is_single single p) → IsTrue (is_some q.value) → p.name ≡ q.name
     → IsTrue (contains s p) → IsTrue (contains s q)
     → (p ≡ q) ⊎ (IsTrue (contains listed p) × IsTrue (contains listed q))
 
--- what is listed and complete is as it is known in part, and the keys have one value
+-- the listed and complete facts are as in `Partly`, and the keys have at most one value
 pub record IsOneValued (listed : FactSet) (complete single : List (List ℕ)) (s : FactSet) : Type 0 where
   pub partly_known : IsPartlyKnown listed complete s
   pub one_value : HasOneValue listed single s
@@ -33,7 +33,7 @@ is_value name p = is_some p.value && bytes_eq p.name name
 abbrev pub has_value : List ℕ → List Pair → Bool
 has_value name ps = list_any (is_value name) ps
 
--- a name or key that is complete, or a further value of a key that has one value
+-- a name or key that is complete, or another value of a key that has one value
 abbrev pub is_ruled_out : List Pair → List (List ℕ) → List (List ℕ) → Pair → Bool
 is_ruled_out facts complete single p = is_named p.name complete || (is_single single p && has_value p.name facts)
 
@@ -41,7 +41,7 @@ abbrev pub one_valued_told : List CfgValue → List (List ℕ) → List (List �
 one_valued_told cs complete single p =
     told_by (contains (fact_set cs) p) (is_ruled_out (map pair_of cs) complete single p)
 
--- two sets that are allowed: one with the pair of c, and one without it
+-- two allowed sets: one with the pair of c, and one without it
 pub record IsOpenOneValued (cs : List CfgValue) (complete single : List (List ℕ)) (c : CfgValue) : Type 0 where
   pub may_be : IsOneValued (fact_set cs) complete single (fact_set (cs ++ c ∷ []))
   pub is_in : IsTrue (contains (fact_set (cs ++ c ∷ [])) (pair_of c))
@@ -55,7 +55,7 @@ one_valued_possible listed complete single = record {
   one_value = λ p q h k e x y. inr (x, y);
 }
 
--- ---- what is ruled out is in no set that is allowed
+-- ---- what is ruled out is in no allowed set
 
 pub either : (P : Type 0) (a b : Bool) → (a || b) ≡ true → (a ≡ true → P) → (b ≡ true → P) → P
 either P true b h f g = f refl

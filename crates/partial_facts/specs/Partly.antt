@@ -1,4 +1,4 @@
--- A target by a list of facts, and the names and keys whose facts are all in that list.
+-- The facts of a target by a list, and the names and keys whose facts are all in that list.
 use Rattle.std.specs.Prelude.{◌≡◌, ◌↔◌, ℕ, Bool, true, false, ◌||◌, IsTrue, List, [], ◌∷◌, ◌++◌, Option, Some, None}
 use Rattle.std.specs.Prelude.{IfSome, bytes_eq, map}
 use Rattle.std.specs.Borrow.{Bor}
@@ -8,7 +8,7 @@ use Rattle.cargo_platform.specs.Trees.{CfgValue}
 use Rattle.cargo_platform.specs.Facts.{Pair, FactSet, pair_of, fact_set}
 use Rattle.cargo_platform.specs.FactLaws.{HasAllFacts}
 
--- names and keys apart from where they lie in memory
+-- names and keys, whatever their place in memory
 abbrev pub names_of : List (Bor (List ℕ)) → List (List ℕ)
 names_of names = map (λ t. t.now) names
 
@@ -16,12 +16,12 @@ abbrev pub is_named : List ℕ → List (List ℕ) → Bool
 is_named name [] = false
 is_named name (n ∷ ns) = bytes_eq name n || is_named name ns
 
--- the set has each fact that is listed, and of the names and keys that are complete no other
+-- the set has each listed fact, and no other fact of the complete names and keys
 pub record IsPartlyKnown (listed : FactSet) (complete : List (List ℕ)) (s : FactSet) : Type 0 where
   pub has : HasAllFacts listed s
   pub no_other : (p : Pair) → IsTrue (is_named p.name complete) → IsTrue (contains s p) → IsTrue (contains listed p)
 
--- each name that is complete stays so
+-- each complete name stays complete
 abbrev pub KeepsNames : List (List ℕ) → List (List ℕ) → Type 0
 KeepsNames complete more = (n : List ℕ) → IsTrue (is_named n complete) → IsTrue (is_named n more)
 
@@ -50,12 +50,12 @@ pub partly_sound : (listed : FactSet) (complete : List (List ℕ)) (s : FactSet)
 partly_sound listed complete s p is =
     sound_by (contains listed p) (is_named p.name complete) (contains s p) (is.has p) (is.no_other p)
 
--- a set is allowed exactly where all that is told holds in it
+-- a set is allowed exactly if everything that is decided is true in it
 abbrev pub IsAllowedByTold : FactSet → List (List ℕ) → FactSet → Type 0
 IsAllowedByTold listed complete s =
     IsPartlyKnown listed complete s ↔ ((p : Pair) → IfSome (partly_told listed complete p) (λ b. contains s p ≡ b))
 
--- two sets that are allowed: one with the pair of c, and one without it
+-- two allowed sets: one with the pair of c, and one without it
 pub record IsLeftOpen (cs : List CfgValue) (complete : List (List ℕ)) (c : CfgValue) : Type 0 where
   pub may_be : IsPartlyKnown (fact_set cs) complete (fact_set (cs ++ c ∷ []))
   pub is_in : IsTrue (contains (fact_set (cs ++ c ∷ [])) (pair_of c))

@@ -1,4 +1,4 @@
--- The residual of a tree: its truth where that is known, and elsewhere the tree without the members that are known.
+-- The residual of a tree: its truth if that is known, and otherwise the tree without the members that are known.
 use Rattle.std.specs.Prelude.{◌≡◌, ◌⊎◌, Bool, true, false, Option, Some, None, List, [], ◌∷◌}
 use Rattle.cargo_platform.specs.Trees.{Tree, Not, All, Any, Value, True, False, Trees, none, tree}
 use Rattle.cargo_platform.specs.Facts.{Pair, pair_of}
@@ -8,7 +8,7 @@ abbrev pub literal : Bool → Tree
 literal true = True
 literal false = False
 
--- the literal of a known truth, and else the tree
+-- the literal of a known truth, or else the tree
 abbrev pub unless_known : Option Bool → Tree → Tree
 unless_known (Some b) e = literal b
 unless_known None e = e
@@ -18,13 +18,13 @@ abbrev pub with_unknown : Option Bool → Tree → Trees → Trees
 with_unknown (Some b) e es = es
 with_unknown None e es = tree e es
 
--- a group of the members; of one member alone that member, and of none a literal
+-- a group of the members, or the only member if there is one, or a literal if there are none
 abbrev pub group : Tree → (Trees → Tree) → Trees → Tree
 group empty of none = empty
 group empty of (tree e none) = e
 group empty of (tree d (tree e es)) = of (tree d (tree e es))
 
--- what is left of a tree whose truth is not known
+-- the residual of a tree whose truth is not known
 abbrev mutual
   pub unknown_part : (Pair → Option Bool) → Tree → Tree
   unknown_part told (Not e) = Not (unknown_part told e)
@@ -52,7 +52,7 @@ AreTwoOrMore none = ⊥
 AreTwoOrMore (tree e none) = ⊥
 AreTwoOrMore (tree d (tree e es)) = Unit {0}
 
--- nothing is known of any value, no literal stands in it, and each group has two members or more
+-- nothing is known of any value, no literal is in it, and each group has two members or more
 abbrev mutual
   pub IsOpen : (Pair → Option Bool) → Tree → Type 0
   IsOpen told (Not e) = IsOpen told e
@@ -77,7 +77,7 @@ IsSubsequence [] ys = Unit {0}
 IsSubsequence (x ∷ xs) [] = ⊥
 IsSubsequence (x ∷ xs) (y ∷ ys) = ((x ≡ y) × IsSubsequence xs ys) ⊎ IsSubsequence (x ∷ xs) ys
 
--- the negation, which of a literal is the other one
+-- the negation, which for a literal is the other literal
 abbrev pub negation : Tree → Tree
 negation True = False
 negation False = True

@@ -1,9 +1,10 @@
-//! Conditions over a target that is known only in part: what is decided already, and what is left to ask.
+//! Evaluates conditions for a target of which only some facts are known: what is decided already, and what remains to
+//! be decided.
 //!
-//! A licence audit goes over many targets at once, and a build planner asks before features or custom cfgs are known.
-//! A `Knowledge` says what is known of the facts of a target. `decide` gives the truth of an expression where that
-//! follows from it, in Kleene's strong three-valued logic, and `residual` is the expression without what is known: its
-//! partial evaluation.
+//! A licence audit covers many targets at once, and a build planner evaluates conditions before features or custom cfgs
+//! are known. A `Knowledge` says what is known of the facts of a target. `decide` returns the truth of an expression if
+//! that follows from it, in Kleene's strong three-valued logic. `residual` returns the expression without what is
+//! known: its partial evaluation.
 #![tactic(auto)]
 
 mod knowledge;

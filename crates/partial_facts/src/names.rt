@@ -1,4 +1,4 @@
-//! Names and keys among texts and facts, for holders of what is known.
+//! Finds names and keys among texts and facts, for implementations of `Knowledge`.
 
 ghost use Rattle.std.specs.Prelude.{◌≡◌, map, string_bytes};
 ghost use Rattle.cargo_platform.specs.Trees.{value_of};
@@ -8,9 +8,9 @@ ghost use Rattle.partial_facts.specs.OneValued.{is_value, has_value};
 
 use cargo_platform::{Cfg, Ident};
 
-/// Whether the text is among these.
+/// Returns whether `texts` contains `text`.
 pub fn is_among(text: &str, texts: &[&str]) -> bool
-    // It is yes exactly if the text is one of them.
+    // It is true exactly if the text is one of them.
     ensures { result ≡ is_named text.now (names_of texts.now) }
 {
     for other in texts {
@@ -21,17 +21,17 @@ pub fn is_among(text: &str, texts: &[&str]) -> bool
     false
 }
 
-/// Whether the name or key is among the texts. Its raw mark plays no part.
+/// Returns whether `texts` contains the name or key. Its raw mark plays no part.
 pub fn is_named(name: &Ident, texts: &[&str]) -> bool
-    // It is yes exactly if the name, without its mark, is one of the texts.
+    // It is true exactly if the name, without its mark, is one of the texts.
     ensures { result ≡ is_named (string_bytes name.now.name) (names_of texts.now) }
 {
     is_among(name.as_str(), texts)
 }
 
-/// Whether the fact is the key with some value. Raw marks play no part.
+/// Returns whether the fact is a pair with this key. Raw marks play no part.
 pub fn is_value(fact: &Cfg, key: &Ident) -> bool
-    // It is yes exactly if the fact is a pair with this key.
+    // It is true exactly if the fact is a pair with this key.
     ensures { result ≡ is_value (string_bytes key.now.name) (pair_of (value_of fact.now)) }
 {
     match fact {
@@ -40,9 +40,9 @@ pub fn is_value(fact: &Cfg, key: &Ident) -> bool
     }
 }
 
-/// Whether some fact is the key with some value. Raw marks play no part.
+/// Returns whether some fact is a pair with this key. Raw marks play no part.
 pub fn has_value(facts: &[Cfg], key: &Ident) -> bool
-    // It is yes exactly if some fact is a pair with this key.
+    // It is true exactly if some fact is a pair with this key.
     ensures { result ≡ has_value (string_bytes key.now.name) (map pair_of (map value_of facts.now)) }
 {
     for fact in facts {

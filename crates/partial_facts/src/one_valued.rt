@@ -1,4 +1,4 @@
-//! A target as far as its facts are listed, where some keys have one value at most.
+//! The facts of a target as far as they are listed, if some keys have at most one value.
 
 ghost use Rattle.cargo_platform.specs.Trees.{value_of};
 
@@ -6,7 +6,8 @@ use crate::knowledge::{Knowledge, Partial};
 use crate::names::{has_value, is_named};
 use cargo_platform::Cfg;
 
-/// The keys of which rustc sets one value at most. `target_family` is none of them: some targets have two families.
+/// The keys that rustc sets to at most one value. `target_family` is not among them, since some targets have two
+/// families.
 pub const ONE_VALUED: &[&str] = &[
     "panic",
     "target_abi",
@@ -18,11 +19,11 @@ pub const ONE_VALUED: &[&str] = &[
     "target_vendor",
 ];
 
-/// The facts of a target as far as they are listed, as in `Partial`, where a key in `single` has at most one value: so
-/// one that has a listed value has no other. If `facts` lists several values of such a key, it has those alone.
+/// The facts of a target as far as they are listed, as in `Partial`, but a key in `single` has at most one value. If
+/// `facts` lists one of its values, it has no other, and if `facts` lists several, it has exactly those.
 ///
 /// So `target_os` in `single` and `target_os = "linux"` in `facts` rule out `target_os = "windows"`, though not the
-/// name `target_os` alone. With no `target_os` listed, each value of it is open. `ONE_VALUED` has rustc's keys. Raw
+/// name `target_os` alone. If no `target_os` is listed, each value of it is open. `ONE_VALUED` has rustc's keys. Raw
 /// marks play no part.
 #[derive(Drop)]
 pub struct OneValued<'a> {
@@ -37,14 +38,14 @@ impl<'a> Knowledge for OneValued<'a> {
     ghost use Rattle.partial_facts.specs.OneValued.{IsOneValued, one_valued_told};
     ghost use Rattle.partial_facts.specs.OneValued.{one_valued_possible, one_valued_sound};
 
-    // It allows those that `Partial` does, with at most one value of a key in `single`: where several are listed, those
-    // alone.
+    // It allows the sets that `Partial` does, with at most one value of a key in `single`, or exactly the listed values
+    // if several are listed.
     ghost allows = { λ k s. IsOneValued (fact_set (map value_of k.facts.now)) (map (λ t. t.now) k.complete.now)
         (map (λ t. t.now) k.single.now) s };
 
     ghost example = { λ k. fact_set (map value_of k.facts.now) };
 
-    // It tells of a pair whether it holds, where all allowed sets agree on that.
+    // It decides a pair if all allowed sets agree on it.
     ghost told = { λ k p. one_valued_told (map value_of k.facts.now) (map (λ t. t.now) k.complete.now)
         (map (λ t. t.now) k.single.now) p };
 

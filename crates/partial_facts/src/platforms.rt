@@ -1,4 +1,4 @@
-//! The condition of a dependency: the name of a target, or an expression.
+//! Decides the condition of a dependency, which is the name of a target or an expression.
 
 ghost use Rattle.std.specs.Prelude.{◌≡◌, ◌≤◌, ◌↔◌, ℕ, List, IsTrue, IfSome, IfOk};
 ghost use Rattle.std.specs.Option.{option_copied};
@@ -16,18 +16,18 @@ use crate::three_valued::decide;
 use cargo_platform::Platform;
 use std::alloc::{AllocError, Global};
 
-/// Whether the condition holds for each target that is possible, where that follows from what is known, and `None`
-/// elsewhere. The name of a target holds where it is `name`, the target's; with no `name` the target may have any. An
-/// expression is decided as by `decide`.
+/// Returns whether the condition is true for each possible target, if that follows from what is known, and `None`
+/// otherwise. The name of a target is true if it is `name`, which is that of the target. If `name` is `None`, the
+/// target may have any name. An expression is decided as by `decide`.
 pub fn decide_platform<K: Knowledge>(
     platform: &Platform,
     name: Option<&str>,
     known: &K,
 ) -> Option<bool>
-    // The answer is the truth in Kleene's strong logic, by what is known.
+    // The result is the truth in Kleene's strong logic, by what is known.
     ensures exact { result
         ≡ kleene_condition (option_copied name.entry) (K.told known.now) (condition_of platform.now) }
-    // An answer is the truth at each possible target, whatever its name where none is given.
+    // A result other than `None` is the truth on each possible target, whatever its name if none is given.
     ensures sound { (target : List ℕ) (s : FactSet) → IfSome name.entry (λ n. target ≡ n.now) → K.allows known.now s
         → IfSome result (λ b. IsTrueCondition target s (condition_of platform.now) ↔ IsTrue b) }
 {
@@ -50,10 +50,10 @@ fn evaluate_platform<K: Knowledge>(
     }
 }
 
-/// What is left of the condition to ask: it holds for the same ones of the possible targets.
+/// Returns what remains of the condition: a condition with the same truth on every possible target.
 ///
-/// The name of a target is left where `name`, the target's, is not given, and else is the literal in `cfg(..)`. An
-/// expression is left as by `residual`. It refuses only where memory is refused.
+/// The name of a target remains if `name`, the target's, is not given, and is a literal in `cfg(..)` otherwise. An
+/// expression becomes what `residual` returns. Fails only if an allocation fails.
 pub fn residual_platform<K: Knowledge>(
     alloc: Global,
     platform: &Platform,
@@ -63,20 +63,20 @@ pub fn residual_platform<K: Knowledge>(
     // What is known is left out, as the definition says.
     ensures exact { IfOk result (λ r.
         condition_of r ≡ residual_condition (option_copied name.entry) (K.told known.now) (condition_of platform.now)) }
-    // At each possible target, what is left is as true as the whole.
+    // On each possible target, the residual has the same truth as the whole condition.
     ensures sound { (target : List ℕ) (s : FactSet) → IfSome name.entry (λ n. target ≡ n.now) → K.allows known.now s
         → IfOk result (λ r.
         IsTrueCondition target s (condition_of r) ↔ IsTrueCondition target s (condition_of platform.now)) }
-    // It is a literal exactly if the whole is decided, with that truth.
+    // The residual is a literal exactly if the whole condition is decided, and has its truth.
     ensures decided { IfOk result (λ r. condition_literal_truth (condition_of r)
         ≡ kleene_condition (option_copied name.entry) (K.told known.now) (condition_of platform.now)) }
-    // Else it has only open names and pairs, no literal inside, and no group of fewer than two members.
+    // Otherwise it has only names and pairs that are open, no literal inside, and no group of fewer than two members.
     ensures open { IfOk result (λ r.
         IsLiteralOrOpenCondition (option_copied name.entry) (K.told known.now) (condition_of r)) }
-    // Its names and pairs stand in the whole, in that order.
+    // Its names and pairs occur in the whole condition, in the same order.
     ensures in_order { IfOk result (λ r.
         IsSubsequence (condition_values (condition_of r)) (condition_values (condition_of platform.now))) }
-    // It is well-formed if the whole is, no larger and no deeper.
+    // It is well-formed if the whole condition is, and neither larger nor deeper.
     ensures well_formed { IsWellFormedCondition (condition_of platform.now)
         → IfOk result (λ r. IsWellFormedCondition (condition_of r)) }
     ensures no_larger { IfOk result (λ r.

@@ -1,4 +1,4 @@
-//! What is left of an expression to ask.
+//! Removes from an expression what is known.
 
 ghost use Rattle.std.specs.Prelude.{◌≡◌, ◌≤◌, ◌++◌, [], ◌∷◌, map, IfOk};
 ghost use Rattle.cargo_platform.specs.Trees.{tree_of, trees_of};
@@ -16,25 +16,25 @@ use cargo_platform::{Cfg, CfgExpr, Fold, fold_expression};
 use std::alloc::{AllocError, Global};
 use std::ops::ControlFlow;
 
-/// What is left of the expression to ask: over each possible set of facts it is as true as `e`, and it holds no name or
-/// pair that is known.
+/// Returns what remains of the expression: it has the same truth as `e` over each possible set of facts, and contains
+/// no name or pair that is known.
 ///
-/// It is a literal where `decide` answers, and elsewhere `e` without the members that are known; of a group that has
-/// one member left that member stands alone. Its names and pairs stand in `e` in that order, with these raw marks, and
-/// it is well-formed where `e` is, so that its text reads back. It refuses only where memory is refused.
+/// It is a literal if `decide` returns a truth, and otherwise `e` without the members that are known. A group with one
+/// remaining member is replaced by that member. The remaining names and pairs are in the order of `e`, with their raw
+/// marks. The result is well-formed if `e` is, so that its text can be parsed back. Fails only if an allocation fails.
 pub fn residual<K: Knowledge>(alloc: Global, e: &CfgExpr, known: &K) -> Result<CfgExpr, AllocError>
     // What is known is left out, as the definition says.
     ensures exact { IfOk result (λ r. tree_of r ≡ residual_tree (K.told known.now) (tree_of e.now)) }
-    // At each possible target, what is left is as true as the whole.
+    // On each possible target, the residual has the same truth as the whole condition.
     ensures sound { (s : FactSet) → K.allows known.now s
         → IfOk result (λ r. truth s (tree_of r) ≡ truth s (tree_of e.now)) }
-    // It is a literal exactly if the whole is decided, with that truth.
+    // The residual is a literal exactly if the whole condition is decided, and has its truth.
     ensures decided { IfOk result (λ r. literal_truth (tree_of r) ≡ kleene (K.told known.now) (tree_of e.now)) }
-    // Else it has only open names and pairs, no literal inside, and no group of fewer than two members.
+    // Otherwise it has only names and pairs that are open, no literal inside, and no group of fewer than two members.
     ensures open { IfOk result (λ r. IsLiteralOrOpen (K.told known.now) (tree_of r)) }
-    // Its names and pairs stand in the whole, in that order.
+    // Its names and pairs occur in the whole condition, in the same order.
     ensures in_order { IfOk result (λ r. IsSubsequence (values (tree_of r)) (values (tree_of e.now))) }
-    // It is well-formed if the whole is, no larger and no deeper.
+    // It is well-formed if the whole condition is, and neither larger nor deeper.
     ensures well_formed { IsWellFormed (tree_of e.now) → IfOk result (λ r. IsWellFormed (tree_of r)) }
     ensures no_larger { IfOk result (λ r. size (tree_of r) ≤ size (tree_of e.now)) }
     ensures no_deeper { IfOk result (λ r. depth (tree_of r) ≤ depth (tree_of e.now)) }
@@ -42,7 +42,7 @@ pub fn residual<K: Knowledge>(alloc: Global, e: &CfgExpr, known: &K) -> Result<C
     fold_expression(alloc, e, &WhatIsLeft { alloc, known })
 }
 
-/// What is left of an expression, part by part.
+/// Computes the residual of an expression, part by part.
 #[derive(Drop)]
 struct WhatIsLeft<'a, K> {
     alloc: Global,
@@ -54,7 +54,7 @@ impl<'a, K: Knowledge> Fold for WhatIsLeft<'a, K> {
 
     type Part = CfgExpr;
 
-    /// What is left of the members, where that is no literal.
+    /// The residuals of the members that are not literals.
     type Members = Vec<CfgExpr>;
 
     ghost makes = { λ r e part. tree_of part ≡ residual_tree (K.told r.known.now) e };
@@ -80,7 +80,7 @@ impl<'a, K: Knowledge> Fold for WhatIsLeft<'a, K> {
         Vec::new(self.alloc)
     }
 
-    /// A literal is passed over, or it settles the group.
+    /// A literal is skipped, or it decides the group.
     fn add(
         &self,
         neutral: bool,
@@ -104,7 +104,7 @@ impl<'a, K: Knowledge> Fold for WhatIsLeft<'a, K> {
     }
 }
 
-/// The truth of a literal.
+/// Returns the truth of a literal.
 fn literal_truth(e: &CfgExpr) -> Option<bool>
     ensures { result ≡ literal_truth (tree_of e.now) }
 {
@@ -115,7 +115,7 @@ fn literal_truth(e: &CfgExpr) -> Option<bool>
     }
 }
 
-/// Members with one more after them. Where memory is refused, all of them are dropped.
+/// Appends a member. Drops all members if the allocation fails.
 fn with_member(mut members: Vec<CfgExpr>, member: CfgExpr) -> Result<Vec<CfgExpr>, AllocError>
     ensures { IfOk result (λ more. map tree_of more.items ≡ map tree_of members.items ++ tree_of member ∷ []) }
 {
@@ -123,14 +123,14 @@ fn with_member(mut members: Vec<CfgExpr>, member: CfgExpr) -> Result<Vec<CfgExpr
     Ok(members)
 }
 
-/// The literal of a truth.
+/// Returns the literal with this truth.
 pub fn literal(truth: bool) -> CfgExpr
     ensures { tree_of result ≡ literal truth }
 {
     if truth { CfgExpr::True } else { CfgExpr::False }
 }
 
-/// The negation, which of a literal is the other one. Where memory is refused, the expression is dropped.
+/// Returns the negation, which for a literal is the other literal. Drops the expression if the allocation fails.
 fn negated(alloc: Global, e: CfgExpr) -> Result<CfgExpr, AllocError>
     ensures { IfOk result (λ r. tree_of r ≡ negation (tree_of e)) }
 {
@@ -141,7 +141,7 @@ fn negated(alloc: Global, e: CfgExpr) -> Result<CfgExpr, AllocError>
     }
 }
 
-/// The group of the members, by its neutral truth; of one member alone that member.
+/// Returns the group of the members, by its neutral truth, or the only member if there is one.
 fn group_of(neutral: bool, mut members: Vec<CfgExpr>) -> CfgExpr
     ensures { tree_of result ≡ group (literal neutral) (grouped neutral) (trees_of (map tree_of members.items)) }
 {

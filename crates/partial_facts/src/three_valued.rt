@@ -1,4 +1,4 @@
-//! The truth of an expression, where it follows from what is known.
+//! Decides an expression, if its truth follows from what is known.
 
 ghost use Rattle.std.specs.Prelude.{◌≡◌, ◌≤◌, Some, map, IfSome, IfOk, MatchResult};
 ghost use Rattle.cargo_platform.specs.Trees.{tree_of, trees_of};
@@ -11,23 +11,23 @@ use crate::knowledge::Knowledge;
 use cargo_platform::CfgExpr;
 use std::mem;
 
-/// The truth of the expression over each possible set of facts, where that follows member by member from
-/// what is known of its names and pairs, and `None` elsewhere.
+/// Returns the truth of the expression over each possible set of facts, if that follows member by member from what is
+/// known of its names and pairs, and `None` otherwise.
 ///
-/// This is Kleene's strong logic: `all` is false where some member is known to be, whatever the others are, and true
-/// where each is known to be. It is sound and not complete, since it takes each name or pair by itself: where `loom` is
-/// not known, neither is `any(loom, not(loom))`.
+/// This is Kleene's strong logic: `all` is false if some member is known to be false, whatever the others are, and true
+/// if each member is known to be true. It is sound but not complete, since it considers each name or pair by itself: if
+/// `loom` is not known, neither is `any(loom, not(loom))`.
 pub fn decide<K: Knowledge>(e: &CfgExpr, known: &K) -> Option<bool>
-    // The answer is the truth in Kleene's strong logic, by what is known.
+    // The result is the truth in Kleene's strong logic, by what is known.
     ensures exact { result ≡ kleene (K.told known.now) (tree_of e.now) }
-    // An answer is the truth at each possible target, whatever its name where none is given.
+    // A result other than `None` is the truth on each possible target, whatever its name if none is given.
     ensures sound { (s : FactSet) → K.allows known.now s → IfSome result (λ b. truth s (tree_of e.now) ≡ b) }
 {
     evaluate(e, known)
 }
 
-// Goes down the last members in a loop, so that what recurses are the members before them. What is asked of `e` there
-// is answered by `if_true` or `if_false` where the truth of `e` is known.
+// Follows last members in a loop, so that the recursion is over the members before them. `if_true` and `if_false` are
+// the results if the current expression is true or false.
 #[cycle(evaluate)]
 fn evaluate<K: Knowledge>(e: &CfgExpr, known: &K) -> Option<bool>
     ensures { result ≡ kleene (K.told known.now) (tree_of e.now) }
@@ -74,8 +74,9 @@ fn evaluate<K: Knowledge>(e: &CfgExpr, known: &K) -> Option<bool>
     }
 }
 
-// The last member of an `all` or `any`, and whether each member before it is known; or the truth of the group where it
-// hangs on none. `all` goes on after members that are true, and `any` after false ones: `neutral` is that truth.
+// Returns the last member of an `all` or `any`, and whether each member before it is known, or the truth of the group
+// if that does not depend on the last member. `all` goes on after members that are true, and `any` after false ones:
+// `neutral` is that truth.
 #[cycle(evaluate)]
 #[inline(always)]
 fn last_member<'a, K: Knowledge>(

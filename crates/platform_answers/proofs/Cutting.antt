@@ -8,7 +8,7 @@ use Rattle.std.specs.List.{onto_first}
 use Rattle.std.proofs.lemmas.Bool.Decides.{nat_tests}
 use Rattle.platform_answers.specs.Lines.{lines_of, line_at}
 
--- no newline stands in the text
+-- the text has no newline
 abbrev pub HasNoEnd : List ℕ → Type 0
 HasNoEnd xs = (i : ℕ) → i < length xs → get_or xs i 0 ≢ 10
 

@@ -50,7 +50,7 @@ first_fact ls facts i n h l none e =
           none_refused (take i (fact_lines ls)) facts k h short (subst P (sym same) refused.2),
     )
 
--- what is said of a refused line of facts
+-- a statement about a refused line of facts
 pub refused_line_of : (text : List ℕ) (r : Result (Vec Cfg Global) FactsError) (n : ℕ) (e : ParseError)
     → lines.IfLine r (λ n e. IsFirstNoFact (lines_of text) n)
     → lines.IfLine r (λ n e. orig_of e ≡ line_at (lines_of text) n)
@@ -127,7 +127,7 @@ no_refused_line ls p facts n query (inr fact) =
     none_refused (fact_lines ls) facts k query.others short
     (subst P (sym (fact_line ls k ∙ ap (line_at ls) number)) fact.2)
 
--- what is said of a refusal that is passed on
+-- a statement about a refusal that is passed on
 pub passed_on : {A : Type 0} (P : Refusal → Type 0) (result : Result A Refusal) (r : Refusal)
     → IsErrAnd result (λ x. x ≡ r) → P r → IfErr result P
 passed_on P (Ok a) r h p = tt

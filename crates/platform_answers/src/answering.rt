@@ -237,7 +237,7 @@ fn answer_bytes(alloc: Global, bytes: &[u8]) -> Result<Answer, AllocError>
     answer_lines(alloc, text)
 }
 
-/// Returns the answer to the input that was read. Fails if memory is refused.
+/// Returns the answer to the input that was read. Fails if an allocation fails.
 pub fn answer_to(alloc: Global, gathered: Gathered) -> Result<Answer, AllocError>
     ensures { IfOk result (λ a. (bs : List ℕ) → IsGathered gathered bs → IsAnswer bs (string_bytes a.text) a.outcome) }
 {

@@ -8,8 +8,8 @@ use cargo_platform::{Cfg, CfgExpr, Facts, Fold, fold_expression};
 use std::alloc::{AllocError, Global};
 use std::ops::ControlFlow;
 
-/// Returns whether the expression is true over the set of facts that the holder means. The groups around a part are
-/// kept in memory. It fails only if memory is refused.
+/// Returns whether the expression is true over the set of facts that the holder represents. The groups around a part
+/// are kept in memory. Fails only if an allocation fails.
 pub fn is_true<F: Facts>(alloc: Global, e: &CfgExpr, facts: &F) -> Result<bool, AllocError>
     ensures { IfOk result (λ b. b ≡ truth (F.meant facts.now) (tree_of e.now)) }
 {

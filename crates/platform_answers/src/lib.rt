@@ -57,7 +57,7 @@ pub enum RunError {
 ///
 /// Returns `RunError::Read` if a read failed otherwise, or if 1,048,578 reads returned neither the end nor a byte too
 /// many. Returns `RunError::Write` if a write failed otherwise or took nothing, if one write more than the output has
-/// bytes did not take all of it, or if the flush failed. Returns `RunError::Memory` if memory was refused, for bytes
+/// bytes did not take all of it, or if the flush failed. Returns `RunError::Memory` if an allocation failed, for bytes
 /// that were read or once the end was reached. After `Read` and `Memory` nothing was written, and after `Write` a
 /// beginning of the output.
 pub fn run<R: Read, W: Write>(

@@ -10,7 +10,8 @@ use cargo_platform::{CfgExpr, Platform};
 use std::alloc::{AllocError, Global};
 use std::slice;
 
-/// Appends a condition in canonical form. The groups around a part are kept in memory. Fails only if memory is refused.
+/// Appends a condition in canonical form. The groups around a part are kept in memory. Fails only if an allocation
+/// fails.
 pub fn push_condition(
     alloc: Global,
     platform: &Platform,

@@ -14,7 +14,7 @@ bracketed : (e : Tree) (ps : List Piece) → Spells 0 e ps → Spells 2 e (Open 
 bracketed e ps (k, inner, spells, is, low) =
     (suc k, inner, spells, ap (λ (l : List Piece). Open ∷ (l ++ Close ∷ [])) is, λ below. omega arith)
 
--- what stands before an operand in its bracket: an expression and `OR`, and one and `AND`
+-- what is before an operand in its bracket: an expression and `OR`, and one and `AND`
 abbrev OrPart : Option Tree → List Piece → Type 0
 OrPart None ps = ps ≡ []
 OrPart (Some e) ps = (us : List Piece) × Spells 0 e us × (ps ≡ us ++ Or ∷ [])
@@ -27,16 +27,16 @@ abbrev Before : List Piece → Type 0
 Before ps =
     (o a : Option Tree) × (ors ands : List Piece) × OrPart o ors × AndPart a ands × (ps ≡ ors ++ ands)
 
--- what stands before the innermost bracket, and its `(`
+-- what is before the innermost bracket, and its `(`
 abbrev Outer : ℕ → List Piece → Type 0
 Outer zero ps = ps ≡ []
 Outer (suc n) ps = (us vs : List Piece) × Outer n us × Before vs × (ps ≡ (us ++ vs) ++ Open ∷ [])
 
--- an operand is wanted behind these parts
+-- an operand is wanted after these parts
 abbrev Wants : ℕ → List Piece → Type 0
 Wants n ps = (us vs : List Piece) × Outer n us × Before vs × (ps ≡ us ++ vs)
 
--- an operand ended behind them
+-- an operand ended after them
 abbrev Ended : ℕ → List Piece → Type 0
 Ended n ps =
     (us ors xs : List Piece) × (o : Option Tree) × (e : Tree)
@@ -160,7 +160,7 @@ onward : (ps : List Piece) (p : Piece) (rest : List Piece) → ((e : Tree) × Sp
 onward ps p rest (e, s) =
     let P : List Piece → Type 0 = Spells 0 e in (e, subst P (append_assoc ps (p ∷ []) rest) s)
 
--- where the parts before stand, by whether an operand is wanted
+-- what the parts before an operand are inside of, by whether an operand has to follow
 abbrev Stands : Bool → ℕ → List Piece → Type 0
 Stands true n ps = Wants n ps
 Stands false n ps = Ended n ps

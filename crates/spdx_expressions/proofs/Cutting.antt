@@ -43,7 +43,7 @@ mark_is_no_word b = by_tests (b == 0x28) (b == 0x29)
     by_tests false true = refl
     by_tests false false = refl
 
--- the first of the tokens begins at this place or behind it
+-- the first of the tokens begins at this place or after it
 BeginsFrom : ℕ → List Placed → Type 0
 BeginsFrom at [] = Unit {0}
 BeginsFrom at (t ∷ ts) = at ≤ t.start
@@ -176,7 +176,7 @@ word_step text start end order within word past =
         ≡ record { token = Word (b ∷ w); start = start; end = n } ∷ tokens_from n (drop end text) in
         subst P (sym is) (word_first b start w (drop end text) all (ends_word text end past))
 
--- what holds at a place, and behind it up to another, holds from the place on
+-- what holds at a place, and after it up to another, holds from the place on
 pub from_first : (text : List ℕ) (start end : ℕ) → is_word_byte (get_or text start 0) ≡ true
     → ((i : ℕ) → start + 1 ≤ i → i < end → is_word_byte (get_or text i 0) ≡ true)
     → (i : ℕ) → start ≤ i → i < end → is_word_byte (get_or text i 0) ≡ true

@@ -21,7 +21,7 @@ Fits false n (Or ∷ ps) = Fits true n ps
 
 -- ---- what spells a tree fits
 
--- the parts fit as an operand, before any that fit behind one
+-- the parts fit as an operand, before any that fit after one
 abbrev pub FitAsOperand : List Piece → Type 0
 FitAsOperand ps = (n : ℕ) (rest : List Piece) → Fits false n rest → Fits true n (ps ++ rest)
 

@@ -12,7 +12,7 @@ pub mod Written
 pub mod Building
 -- OneTree: parts spell one tree at most
 pub mod OneTree
--- Viable: which fronts of tokens can be completed, and what is expected behind one
+-- Viable: which fronts of tokens can be completed, and what is expected after one
 pub mod Viable
 -- Truth: going over the parts gives the truth of the tree
 pub mod Truth

@@ -56,7 +56,7 @@ id_string_ends bs h =
 own_ends : (bs : List ℕ) → is_own_reference bs ≡ true → ends_with_plus bs ≡ false
 own_ends bs h = id_string_ends bs (and_parts (is_id_string bs) _ h).0
 
--- the last byte of what is behind some bytes is the last of all
+-- the last byte of what is after some bytes is the last of all
 drop_ends : (n : ℕ) (bs : List ℕ) → 0 < length (drop n bs) → ends_with_plus (drop n bs) ≡ ends_with_plus bs
 drop_ends n bs some =
     let size = length-drop n bs in

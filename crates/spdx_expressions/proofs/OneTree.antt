@@ -5,7 +5,7 @@ use Rattle.std.proofs.Common.{◌++◌, append_assoc, Option, Some, None, arith}
 use Rattle.spdx_expressions.specs.Trees.{Tree, Single, Both, Either, Piece, Named, And, Or, Open, Close}
 use Rattle.spdx_expressions.specs.Grammar.{in_brackets, SpellsBare, Spells}
 
--- what stands before an operand in its bracket
+-- what is before an operand in its bracket
 record Frame : Type 0 where
   before_or : Option Tree
   before_and : Option Tree

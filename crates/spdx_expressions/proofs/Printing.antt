@@ -180,7 +180,7 @@ term_gives t rest is ends =
     (ends_exception t.exception rest ends))
     (exceptions_give t.exception rest is.1 ends)
 
--- behind an operand no word goes on
+-- after an operand no word goes on
 ends_print : (ps : List Piece) (n : ℕ) → Fits false n ps → EndsWord (print ps)
 unfolding EndsWord
 ends_print [] n f = tt
@@ -224,7 +224,7 @@ printed (Or ∷ ps) false n f terms =
 
 -- ---- the whole
 
--- the print of well-formed parts is written as these
+-- the printed text of well-formed parts is written as these
 pub print_written : (ps : List Piece) → IsWellFormed ps → AreWritten ps (tokens (print ps))
 print_written ps (t, spells, terms) = printed ps true 0 (spelled_fits t ps spells) terms 0
 

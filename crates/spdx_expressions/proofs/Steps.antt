@@ -83,7 +83,7 @@ pub no_token : (s : State) (after : List Placed) (t : Placed) (ts : List Placed)
     → step s t.token ≡ None → DoNotFit s after
 no_token s after t ts is none = let P : List Placed → Type 0 = DoNotFit s in subst P (sym is) none
 
--- ---- behind an operand
+-- ---- after an operand
 
 pub is_behind : (n : ℕ) (ps : List Piece) (after : List Placed)
     → IsBehind (record { mode = Behind; depth = n; parts = ps }) after n ps

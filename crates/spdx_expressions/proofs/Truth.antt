@@ -14,7 +14,7 @@ abbrev PassedInside : (Term → Bool) → List Piece → Type 0
 PassedInside holds ps = (v : Bool) (d : ℕ) (rest : List Piece)
     → walk holds (passes v (suc d)) (ps ++ rest) ≡ walk holds (passes v (suc d)) rest
 
--- nor outside, where no `OR` stands
+-- nor outside, where no `OR` is
 abbrev PassedFlat : (Term → Bool) → List Piece → Type 0
 PassedFlat holds ps = (v : Bool) (d : ℕ) (rest : List Piece)
     → walk holds (passes v d) (ps ++ rest) ≡ walk holds (passes v d) rest
@@ -101,11 +101,11 @@ unit_passed holds e ps s = let two : 0 < 2 = omega arith in flat_around holds 2 
 
 -- ---- what is gone into
 
--- behind an operand the truth is known
+-- after an operand the truth is known
 abbrev GivesUnit : (Term → Bool) → Bool → List Piece → Type 0
 GivesUnit holds v ps = (u : Bool) (rest : List Piece) → walk holds (live u) (ps ++ rest) ≡ walk holds (live v) rest
 
--- behind operands that `AND` joins, what else it joins may be passed over, where the truth is false
+-- after operands that `AND` joins, what else it joins may be passed over, where the truth is false
 abbrev IsTermEnd : Bool → Walk → Type 0
 IsTermEnd v w = (w ≡ live v) ⊎ ((v ≡ false) × (w ≡ passes false 0))
 
@@ -113,7 +113,7 @@ abbrev GivesTerm : (Term → Bool) → Bool → List Piece → Type 0
 GivesTerm holds v ps = (u : Bool) (rest : List Piece)
     → (w : Walk) × IsTermEnd v w × (walk holds (live u) (ps ++ rest) ≡ walk holds w rest)
 
--- and behind those that `OR` joins in any case
+-- and after those that `OR` joins in any case
 abbrev IsWholeEnd : Bool → Walk → Type 0
 IsWholeEnd v w = (w ≡ live v) ⊎ (w ≡ passes v 0)
 
@@ -197,7 +197,7 @@ term_around holds (Both l r) ps each (zero, inner, spells, is, low) =
 term_around holds (Either l r) ps each (zero, inner, spells, is, low) =
     let none : 0 < 0 = low (omega arith) in absurd (omega arith)
 
--- `AND`, behind its left side
+-- `AND`, after its left side
 and_gives : (holds : Term → Bool) (a b : Bool) (w : Walk) (rs rest : List Piece) → IsTermEnd a w
     → PassedFlat holds rs → GivesUnit holds b rs
     → (x : Walk) × IsTermEnd (a && b) x × (walk holds w (And ∷ (rs ++ rest)) ≡ walk holds x rest)
@@ -209,7 +209,7 @@ and_gives holds false b w rs rest (inl is) passed gives =
 and_gives holds false b w rs rest (inr (off, is)) passed gives =
     (passes false 0, inr (refl, refl), ap (λ (x : Walk). walk holds x (And ∷ (rs ++ rest))) is ∙ passed false 0 rest)
 
--- `OR`, behind its left side
+-- `OR`, after its left side
 or_gives : (holds : Term → Bool) (a b : Bool) (w : Walk) (rs rest : List Piece) → IsWholeEnd a w
     → PassedFlat holds rs → GivesTerm holds b rs
     → (x : Walk) × IsWholeEnd (a || b) x × (walk holds w (Or ∷ (rs ++ rest)) ≡ walk holds x rest)

@@ -1,4 +1,4 @@
--- Which fronts of tokens can be completed, and what is expected behind one.
+-- Which fronts of tokens can be completed, and what is expected after one.
 use Rattle.std.proofs.Common.{◌≡◌, refl, sym, ap, ◌∙◌, subst, ℕ, suc, zero, ◌+◌, Bool, true, false, List, [], ◌∷◌}
 use Rattle.std.proofs.Common.{◌++◌, append-nil, Option, Some, None, arith, cond, codes, add-zero}
 use Rattle.std.specs.Prelude.{bytes_eq, count_by, ◌||◌}
@@ -110,7 +110,7 @@ early_end ts s h none (e, spelled) =
     let ends : whole s ≡ Some spelled.0 = subst P h (accepted_ends ts e spelled) in
     cc
 
--- ---- what is expected behind the tokens
+-- ---- what is expected after the tokens
 
 ToldBy : (ℕ → Expected) → (left right : ℕ) → ℕ → Option State → Type 0
 ToldBy wanted left right n None = Unit {0}

@@ -96,7 +96,7 @@ behind_sound (Word w) ts sound n ps qs h = by (bytes_eq w (codes "AND")) (bytes_
         )
     by false false ea eo h = absurd h
 
--- a licence with no exception, and what is added behind it
+-- a licence with no exception, and what is added after it
 with_term : (t : Term) (n : ℕ) (ps qs : List Piece) (ts : List Lexeme) → IsTerm t → t.exception ≡ None
     → Adds Behind n (ps ++ Named t ∷ []) ts qs → Adds (Licensed t) n ps ts qs
 with_term t n ps qs ts is none a = (

@@ -1,4 +1,4 @@
--- Which licences an entry of a list allows, and whether an expression is satisfied over a list.
+-- Which licences an entry of a list allows, and whether a list satisfies an expression.
 use Rattle.std.specs.Prelude.{ℕ, ◌-◌, Bool, true, false, not, ◌&&◌, ◌||◌, if◌then◌else◌, List, length, take, drop}
 use Rattle.std.specs.Prelude.{codes}
 use Rattle.std.specs.Prelude.{Option, Some, None}
@@ -6,7 +6,7 @@ use Rattle.std.specs.Str.{str_eq_ignore_ascii_case}
 use Rattle.std.specs.List.{list_any}
 use Rattle.spdx_expressions.specs.Trees.{Term, Tree, Single, Both, Either}
 
--- the name ends so, in capital or small letters
+-- the name ends with this, ignoring the case of letters
 abbrev pub ends_in : List ℕ → List ℕ → Bool
 ends_in suffix name = str_eq_ignore_ascii_case (drop (length name - length suffix) name) suffix
 
@@ -14,7 +14,7 @@ ends_in suffix name = str_eq_ignore_ascii_case (drop (length name - length suffi
 abbrev pub offers_later : Term → Bool
 offers_later t = t.or_later || ends_in (codes "-or-later") t.name
 
--- the name without `-or-later` or `-only`, which the list of SPDX has for some licences
+-- the name without `-or-later` or `-only`, with which some licences of the SPDX list end
 abbrev pub stem : List ℕ → List ℕ
 stem name =
     if ends_in (codes "-or-later") name then take (length name - 9) name
@@ -26,8 +26,8 @@ same_exception None (Some f) = false
 same_exception (Some e) None = false
 same_exception (Some e) (Some f) = str_eq_ignore_ascii_case e f
 
--- An entry allows a licence of the same name and exception. One that offers later versions is allowed by either form of
--- the entry, since it may be taken in the version that it names; one that does not, only by an entry of that version.
+-- An entry allows a licence of the same name and exception. A licence that offers later versions is allowed by either
+-- form of the entry, since it may be taken in the version that it names; any other only by an entry of that version.
 abbrev pub allows : Term → Term → Bool
 allows entry t =
     str_eq_ignore_ascii_case (stem entry.name) (stem t.name)
@@ -38,7 +38,7 @@ allows entry t =
 abbrev pub is_allowed : List Term → Term → Bool
 is_allowed entries t = list_any (λ entry. allows entry t) entries
 
--- the truth of a tree, by which licences hold: both sides of an `AND`, one side of an `OR`
+-- the truth of a tree, by the truth of its licences: both sides of an `AND`, one side of an `OR`
 abbrev pub truth : (Term → Bool) → Tree → Bool
 truth holds (Single t) = holds t
 truth holds (Both left right) = truth holds left && truth holds right

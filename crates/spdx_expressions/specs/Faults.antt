@@ -1,4 +1,4 @@
--- Why a text is refused: the first token that does not fit, or the end that comes too early.
+-- Why a text is refused: the first token that is not allowed, or the end that comes too early.
 use Rattle.std.specs.Prelude.{◌≡◌, ℕ, suc, zero, ◌-◌, Bool, true, false, ◌||◌, if◌then◌else◌, List, [], ◌∷◌, ◌++◌}
 use Rattle.std.specs.Prelude.{length, Option, Some, None, codes, bytes_eq, count_by}
 use Rattle.std.specs.List.{last_or}
@@ -14,7 +14,8 @@ use Rattle.spdx_expressions.specs.Grammar.{SpellTree, IsTerm, term_tokens}
 
 -- ---- what is found, and where
 
--- what a token is called in a fault
+-- ---- what is found, and where
+-- how faults name a token
 abbrev pub found_in : Lexeme → Found
 found_in LeftBracket = found.Open
 found_in RightBracket = found.Close
@@ -25,12 +26,12 @@ found_in (Word w) =
     else (if bytes_eq w (codes "WITH") then found.With
     else (if names_licence w then found.Licence else found.Unknown)))
 
--- what is found, by the tokens that are left
+-- what is found, by the remaining tokens
 abbrev pub found_next : List Placed → Found
 found_next [] = found.End
 found_next (t ∷ ts) = found_in t.token
 
--- and where: the next token, or the empty span at the end of the text
+-- where it is found: the next token, or the empty span at the end of the text
 abbrev pub span_next : List ℕ → List Placed → Range ℕ
 span_next text [] = record { start = length text; end = length text }
 span_next text (t ∷ ts) = record { start = t.start; end = t.end }
@@ -49,16 +50,16 @@ is_right RightBracket = true
 is_right Slash = false
 is_right (Word w) = false
 
--- how many brackets are open behind tokens
+-- the number of brackets that are open after tokens
 abbrev pub opened : List Lexeme → ℕ
 opened ts = count_by is_left ts - count_by is_right ts
 
--- behind an operand
+-- after an operand
 abbrev pub expected_behind : ℕ → Expected
 expected_behind zero = expected.Operator
 expected_behind (suc n) = expected.OperatorOrClose
 
--- what is expected, by the last token and how many brackets are open
+-- what is expected, by the last token and the number of open brackets
 abbrev pub expected_by : Option Lexeme → ℕ → Expected
 expected_by None n = expected.Licence
 expected_by (Some LeftBracket) n = expected.Licence
@@ -71,7 +72,7 @@ expected_by (Some (Word w)) n =
 abbrev pub expected_after : List Lexeme → Expected
 expected_after ts = expected_by (last_or None ts) (opened ts)
 
--- the same, where one licence is read
+-- the same if one licence is parsed
 abbrev pub expected_last : Option Lexeme → Expected
 expected_last None = expected.Licence
 expected_last (Some LeftBracket) = expected.End
@@ -84,7 +85,8 @@ expected_of_one ts = expected_last (last_or None ts)
 
 -- ---- the fault
 
--- which tokens are accepted: those of a tree, and those of one licence
+-- ---- the fault
+-- the tokens that are accepted: those of a tree, or those of one licence
 abbrev pub IsAccepted : List Lexeme → Type 0
 IsAccepted ts = (e : Tree) × SpellTree ts e
 
@@ -95,12 +97,14 @@ IsOneLicence ts = (t : Term) × IsTerm t × (ts ≡ term_tokens t)
 abbrev pub IsCompletable : (List Lexeme → Type 0) → List Lexeme → Type 0
 IsCompletable accepts ts = (more : List Lexeme) × accepts (ts ++ more)
 
--- the tokens before can't go on with what is left: the next token makes them completable no more, or they end too early
+-- the tokens before can't continue with the remaining ones: with the next token they can't be completed, or they end
+-- too early
 abbrev pub IsStuck : (List Lexeme → Type 0) → List Lexeme → List Placed → Type 0
 IsStuck accepts before [] = accepts before → ⊥
 IsStuck accepts before (t ∷ ts) = IsCompletable accepts (before ++ t.token ∷ []) → ⊥
 
--- The fault of a text: its longest completable front of tokens, what was expected behind it, and what was found there.
+-- The fault of a text: its longest prefix of tokens that can be completed, what is expected after it, and what is found
+-- there.
 pub record IsFaultBy (accepts : List Lexeme → Type 0) (expects : List Lexeme → Expected) (text : List ℕ)
     (wanted : Expected) (found : Found) (span : Range ℕ) : Type 0 where
   pub before : List Placed
@@ -112,10 +116,10 @@ pub record IsFaultBy (accepts : List Lexeme → Type 0) (expects : List Lexeme �
   pub is_found : found ≡ found_next after
   pub is_at : span ≡ span_next text after
 
--- of a text that was read as an expression
+-- the fault of a text that is parsed as an expression
 abbrev pub IsFault : List ℕ → Expected → Found → Range ℕ → Type 0
 IsFault = IsFaultBy IsAccepted expected_after
 
--- of one that was read as a licence
+-- the fault of a text that is parsed as a licence
 abbrev pub IsFaultOfOne : List ℕ → Expected → Found → Range ℕ → Type 0
 IsFaultOfOne = IsFaultBy IsOneLicence expected_of_one

@@ -12,18 +12,18 @@ tightness (Either left right) = 0
 tightness (Both left right) = 1
 tightness (Single t) = 2
 
--- that many pairs of brackets around parts
+-- this many pairs of brackets around parts
 abbrev pub in_brackets : ℕ → List Piece → List Piece
 in_brackets zero ps = ps
 in_brackets (suc n) ps = Open ∷ (in_brackets n ps ++ Close ∷ [])
 
--- Brackets may stand around what an expression spells bare, as many as one likes, and some do where its own operator
--- binds less than a level asks.
+-- There may be brackets around what an expression spells bare, as many as one likes, and there are some if its own
+-- operator binds less tightly than a level requires.
 abbrev pub Around : ℕ → ℕ → (List Piece → Type 0) → List Piece → Type 0
 Around level own SpellsInner ps =
     (n : ℕ) × (inner : List Piece) × SpellsInner inner × (ps ≡ in_brackets n inner) × (own < level → 0 < n)
 
--- The parts spell the tree with no brackets around the whole. `AND` binds more tightly than `OR`, and equal operators
+-- The parts spell the tree without brackets around the whole. `AND` binds more tightly than `OR`, and equal operators
 -- group to the left.
 abbrev pub SpellsBare : Tree → List Piece → Type 0
 SpellsBare (Single t) ps = ps ≡ Named t ∷ []
@@ -34,15 +34,15 @@ SpellsBare (Either left right) ps =
     (ls rs : List Piece) × Around 0 (tightness left) (SpellsBare left) ls
     × Around 1 (tightness right) (SpellsBare right) rs × (ps ≡ ls ++ Or ∷ rs)
 
--- the parts spell the tree where operators bind at least as tightly as a level
+-- the parts spell the tree at a level: its operators bind at least as tightly
 abbrev pub Spells : ℕ → Tree → List Piece → Type 0
 Spells level e = Around level (tightness e) (SpellsBare e)
 
--- a licence of the grammar: its name is one, and its exception an identifier
+-- a licence of the grammar: its name is a licence's name, and its exception an identifier
 abbrev pub IsTerm : Term → Type 0
 IsTerm t = IsTrue (is_name t.or_later t.name) × IfSome t.exception (λ e. IsTrue (is_identifier e))
 
--- `+` directly behind a name
+-- `+` directly after a name
 abbrev pub plus : Bool → List ℕ
 plus true = codes "+"
 plus false = []
@@ -54,7 +54,7 @@ exception_tokens (Some e) = Word (codes "WITH") ∷ Word e ∷ []
 abbrev pub term_tokens : Term → List Lexeme
 term_tokens t = Word (t.name ++ plus t.or_later) ∷ exception_tokens t.exception
 
--- the tokens that a part is written as; a slash is an older `OR`
+-- the tokens of a part; a slash is an older `OR`
 abbrev pub IsWritten : Piece → List Lexeme → Type 0
 IsWritten (Named t) ts = IsTerm t × (ts ≡ term_tokens t)
 IsWritten And ts = ts ≡ Word (codes "AND") ∷ []
@@ -62,7 +62,7 @@ IsWritten Or ts = (ts ≡ Word (codes "OR") ∷ []) ⊎ (ts ≡ Slash ∷ [])
 IsWritten Open ts = ts ≡ LeftBracket ∷ []
 IsWritten Close ts = ts ≡ RightBracket ∷ []
 
--- parts are written one behind the other
+-- the tokens of parts, one after the other
 abbrev pub AreWritten : List Piece → List Lexeme → Type 0
 AreWritten [] ts = ts ≡ []
 AreWritten (p ∷ ps) ts =

@@ -1,4 +1,5 @@
--- What contracts of private functions cite, and no promise rests on.
+-- Definitions for the contracts of private functions. No promise depends on them.
+--
 -- Reading: the reader, token by token
 pub mod Reading
 -- Walking: the truth of an expression, part by part

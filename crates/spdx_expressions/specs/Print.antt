@@ -1,4 +1,4 @@
--- What is printed.
+-- The printed text of licences, parts and errors.
 use Rattle.std.specs.Prelude.{ℕ, List, [], ◌++◌, Option, Some, None, codes, flat_map}
 use Rattle.spdx_expressions.specs.Trees.{Term, Piece, Named, And, Or, Open, Close}
 use Rattle.std.specs.Prelude.{string_bytes}
@@ -15,11 +15,11 @@ abbrev pub print_exception : Option (List ℕ) → List ℕ
 print_exception None = []
 print_exception (Some e) = codes " WITH " ++ e
 
--- the name, `+` where it is, and the exception
+-- the name, `+` if it has one, and the exception
 abbrev pub print_term : Term → List ℕ
 print_term t = t.name ++ plus t.or_later ++ print_exception t.exception
 
--- operators stand between single spaces, and no other space is printed
+-- there is one space on each side of an operator, and no other space is printed
 abbrev pub print_piece : Piece → List ℕ
 print_piece (Named t) = print_term t
 print_piece And = codes " AND "
@@ -55,7 +55,7 @@ print_error e =
     codes "failed to parse `" ++ string_bytes e.text ++ codes "` as a licence expression: expected "
     ++ print_expected e.expected ++ codes ", found " ++ print_found e.found
 
--- nothing of an allocation failure
+-- nothing is said of an allocation failure
 abbrev pub print_refusal : ReadError → Option (List ℕ)
 print_refusal (errors.Parse e) = Some (print_error e)
 print_refusal (errors.Memory e) = None

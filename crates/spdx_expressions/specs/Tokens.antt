@@ -1,4 +1,4 @@
--- The tokens of a text: brackets, slashes and words, and where each stands. A text is the list of its bytes in UTF-8.
+-- The tokens of a text: brackets, slashes and words, and their positions. A text is the list of its bytes in UTF-8.
 use Rattle.std.specs.Prelude.{ℕ, ◌+◌, Bool, true, false, not, ◌||◌, ◌&&◌, ◌==◌, if◌then◌else◌, List, [], ◌∷◌, map}
 use Rattle.spdx_expressions.specs.declared.tokens.Token.{Token}
 use Rattle.spdx_expressions.specs.declared.tokens.Token.TheVariants as token
@@ -12,7 +12,7 @@ is_space b = b == 0x20 || b == 0x09
 abbrev pub is_mark : ℕ → Bool
 is_mark b = b == 0x28 || b == 0x29 || b == 0x2F
 
--- any other byte, also one of a character that no identifier has
+-- any other byte, including those of characters that no identifier has
 abbrev pub is_word_byte : ℕ → Bool
 is_word_byte b = not (is_space b || is_mark b)
 
@@ -23,13 +23,13 @@ pub data Lexeme : Type 0 where
   Slash : Lexeme
   Word : (bytes : List ℕ) → Lexeme
 
--- a token, and the places in the text at which it begins and ends
+-- a token, and the positions in the text at which it begins and ends
 pub record Placed : Type 0 where
   pub token : Lexeme
   pub start : ℕ
   pub end : ℕ
 
--- the token that a mark is
+-- the token of a mark
 abbrev pub mark : ℕ → Lexeme
 mark b = if b == 0x28 then LeftBracket else (if b == 0x29 then RightBracket else Slash)
 
@@ -54,7 +54,7 @@ single t at = record { token = t; start = at; end = at + 1 }
 abbrev pub longer : ℕ → ℕ → Placed → Placed
 longer b at t = record { token = Word (b ∷ bytes_of t.token); start = at; end = t.end }
 
--- tokens with one byte of a word before them: it belongs to a word that begins right behind it, or else is a word
+-- tokens with one byte of a word before them: it becomes part of a word that begins right after it, or else is a word
 abbrev pub with_byte : ℕ → ℕ → List Placed → List Placed
 with_byte b at [] = single (Word (b ∷ [])) at ∷ []
 with_byte b at (t ∷ ts) =
@@ -62,8 +62,8 @@ with_byte b at (t ∷ ts) =
     then longer b at t ∷ ts
     else single (Word (b ∷ [])) at ∷ t ∷ ts
 
--- The tokens of a text that begins at a place: no space is in a token, a mark is one, and so are the other bytes that
--- stand side by side, up to the next space or mark.
+-- The tokens of a text that begins at a position: a space is in no token, a mark is a token, and so are the consecutive
+-- other bytes up to the next space or mark.
 abbrev pub tokens_from : ℕ → List ℕ → List Placed
 tokens_from at [] = []
 tokens_from at (b ∷ bs) =
@@ -76,11 +76,11 @@ tokens_from at (b ∷ bs) =
 abbrev pub lexemes : List Placed → List Lexeme
 lexemes ts = map (λ t. t.token) ts
 
--- the tokens of a text, without their places
+-- the tokens of a text, without their positions
 abbrev pub tokens : List ℕ → List Lexeme
 tokens text = lexemes (tokens_from 0 text)
 
--- what a token of the program stands for
+-- the lexeme that a token of the program means
 abbrev pub lexeme : Token → Lexeme
 lexeme token.LeftBracket = LeftBracket
 lexeme token.RightBracket = RightBracket

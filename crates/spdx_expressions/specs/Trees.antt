@@ -1,10 +1,10 @@
--- Licences, the parts of an expression, and the tree that they stand for, apart from memory.
+-- Licences, the parts of an expression, and the tree that they mean, whatever their place in memory.
 use Rattle.std.specs.Prelude.{ℕ, Bool, List, map, Option, Some, None, String, string_bytes}
 use Rattle.spdx_expressions.specs.declared.Licence.{Licence}
 use Rattle.spdx_expressions.specs.declared.Part.{Part}
 use Rattle.spdx_expressions.specs.declared.Part.TheVariants as part
 
--- one licence as it stands in an expression
+-- one licence of an expression
 pub record Term : Type 0 where
   pub name : List ℕ
   pub or_later : Bool
@@ -28,7 +28,7 @@ abbrev pub text_of : {A : Type 0} → Option (String A) → Option (List ℕ)
 text_of None = None
 text_of (Some s) = Some (string_bytes s)
 
--- what a value of the program stands for
+-- what a value of the program means
 abbrev pub term_of : Licence → Term
 term_of l = record { name = string_bytes l.id; or_later = l.or_later; exception = text_of l.exception }
 

@@ -1,4 +1,4 @@
--- Which words are what: operators, identifiers and the names of licences. The sources are the annexes "SPDX license
+-- Which words are operators, identifiers and the names of licences. The sources are the annexes "SPDX license
 -- expressions" of the SPDX specification, version 2.3, and Cargo's reference on `license`.
 use Rattle.std.specs.Prelude.{ℕ, Bool, true, false, not, ◌&&◌, ◌||◌, ◌==◌, List, length, take, codes, bytes_eq}
 use Rattle.std.specs.Prelude.{nat_eq, nat_lt, slice_index, ◌-◌, if◌then◌else◌}
@@ -13,36 +13,36 @@ is_id_byte b = is_ascii_alphanumeric b || b == 0x2D || b == 0x2E
 abbrev pub is_id_string : List ℕ → Bool
 is_id_string bs = not (length bs == 0) && list_all is_id_byte bs
 
--- an operator, in capital letters: in other letters it is an identifier
+-- an operator, in capital letters: otherwise it is an identifier
 abbrev pub is_operator : List ℕ → Bool
 is_operator bs = bytes_eq bs (codes "AND") || bytes_eq bs (codes "OR") || bytes_eq bs (codes "WITH")
 
 abbrev pub is_identifier : List ℕ → Bool
 is_identifier bs = is_id_string bs && not (is_operator bs)
 
--- it begins with the prefix, and goes on
+-- it begins with the prefix, and is longer
 abbrev pub goes_on : List ℕ → List ℕ → Bool
 goes_on prefix bs = starts_with nat_eq bs prefix && nat_lt (length prefix) (length bs)
 
--- a licence that a document describes itself: `LicenseRef-` and an `idstring`
+-- a licence that the document itself describes: `LicenseRef-` and an `idstring`
 abbrev pub is_own_reference : List ℕ → Bool
 is_own_reference bs = is_id_string bs && goes_on (codes "LicenseRef-") bs
 
--- one that another document describes: `DocumentRef-`, an `idstring`, `:` and such a licence
+-- a licence that another document describes: `DocumentRef-`, an `idstring`, `:` and such a licence
 abbrev pub is_foreign_reference : List ℕ → Bool
 is_foreign_reference bs =
     is_id_string (before_first (λ b. b == 0x3A) bs)
     && goes_on (codes "DocumentRef-") (before_first (λ b. b == 0x3A) bs)
     && is_own_reference (after_first (λ b. b == 0x3A) bs)
 
--- any other identifier, which the list of SPDX may have or not
+-- any other identifier, whether the list of SPDX has it or not
 abbrev pub is_listed : List ℕ → Bool
 is_listed bs =
     is_identifier bs
     && not (starts_with nat_eq bs (codes "LicenseRef-"))
     && not (starts_with nat_eq bs (codes "DocumentRef-"))
 
--- the name of a licence, by whether `+` stands directly behind it, which a reference can't have
+-- the name of a licence, by whether `+` directly follows it, which is not possible for a reference
 abbrev pub is_name : Bool → List ℕ → Bool
 is_name true bs = is_listed bs
 is_name false bs = is_listed bs || is_own_reference bs || is_foreign_reference bs

@@ -1,4 +1,4 @@
-//! Which licences an entry of a list allows, and whether an expression is satisfied over a list.
+//! Which licences an entry of a list allows, and whether a list satisfies an expression.
 
 ghost use Rattle.std.specs.Prelude.{◌≡◌, ◌<◌, ◌^◌, ◌+◌, ◌≤◌, true, false, map};
 ghost use Rattle.std.specs.List.{list_any};
@@ -11,14 +11,14 @@ ghost use Rattle.spdx_expressions.specs.Inside.Walking.{step, walk, live, live_s
 
 use crate::{Licence, LicenceExpression, Part};
 
-/// Whether two texts are equal but for the case of ASCII letters.
+/// Returns whether two texts are equal, ignoring the case of ASCII letters.
 fn same_text(a: &[u8], b: &[u8]) -> bool
     ensures { result ≡ str_eq_ignore_ascii_case a.now b.now }
 {
     a.eq_ignore_ascii_case(b)
 }
 
-/// Whether a name ends so, in capital or small letters.
+/// Returns whether a name ends with `suffix`, ignoring the case of ASCII letters.
 fn ends_in(suffix: &[u8], name: &[u8]) -> bool
     ensures { result ≡ ends_in suffix.now name.now }
 {
@@ -26,7 +26,7 @@ fn ends_in(suffix: &[u8], name: &[u8]) -> bool
     same_text(&name[start..], suffix)
 }
 
-/// A name without `-or-later` or `-only`.
+/// Returns a name without `-or-later` or `-only` at its end.
 fn stem(name: &[u8]) -> &[u8]
     ensures { result.now ≡ stem name.now }
 {
@@ -39,14 +39,14 @@ fn stem(name: &[u8]) -> &[u8]
     }
 }
 
-/// Whether a licence is offered in later versions too.
+/// Returns whether a licence is offered in later versions too.
 fn offers_later(licence: &Licence) -> bool
     ensures { result ≡ offers_later (term_of licence.now) }
 {
     licence.or_later || ends_in(b"-or-later", licence.id.as_bytes())
 }
 
-/// Whether both have no exception, or the same.
+/// Returns whether both have no exception, or the same one.
 fn same_exception(a: &Option<String>, b: &Option<String>) -> bool
     ensures { result ≡ same_exception (text_of a.now) (text_of b.now) }
 {
@@ -60,12 +60,13 @@ fn same_exception(a: &Option<String>, b: &Option<String>) -> bool
 }
 
 impl Licence {
-    /// Whether this licence, as an entry of a list of allowed ones, allows another: one of the same identifier,
-    /// whatever the case of its letters, and of the same exception. `-or-later` is `+`, and `-only` is neither. What is
-    /// offered in later versions is allowed by either form of the entry, and else only one that names no later
-    /// versions.
+    /// Returns whether this licence, as an entry of a list of allowed licences, allows another one. They need the same
+    /// identifier, whatever the case of its letters, and the same exception. `-or-later` counts as `+`, and `-only` as
+    /// neither. A licence that is offered in later versions is allowed by either form of the entry. Any other is
+    /// allowed only by an entry that names no later versions.
     pub fn allows(&self, licence: &Licence) -> bool
-        // An entry allows a licence of its stem and exception; an entry with later versions allows only one with them.
+        // An entry allows a licence with its stem and exception. An entry with later versions allows only a licence
+        // with them.
         ensures { result ≡ allows (term_of self.now) (term_of licence.now) }
     {
         same_text(stem(self.id.as_bytes()), stem(licence.id.as_bytes()))
@@ -74,15 +75,15 @@ impl Licence {
     }
 }
 
-/// Whether an entry of a list allows a licence.
+/// Returns whether an entry of a list allows a licence.
 fn is_allowed(allowed: &[Licence], licence: &Licence) -> bool
     ensures { result ≡ list_any (λ entry. allows (term_of entry) (term_of licence.now)) allowed.now }
 {
     allowed.iter().any(|entry| entry.allows(licence))
 }
 
-/// What is known of an expression so far. Parts that can't change it are passed over: then `depth` brackets were opened
-/// since.
+/// What is known of an expression so far. Parts that can't change it are skipped. `depth` is then the number of
+/// brackets that were opened since.
 #[derive(Clone, Copy)]
 struct Walk {
     value: bool,
@@ -130,7 +131,7 @@ impl Walk {
         }
     }
 
-    /// Goes over a part that can't.
+    /// Goes over a part that can't change what is known.
     fn pass_over(self, part: &Part) -> Walk
         requires passing { self.passing ≡ true }
         requires depth { self.depth < 2 ^ 63 }
@@ -165,17 +166,19 @@ impl Walk {
 }
 
 impl LicenceExpression {
-    /// Whether it is satisfied by a list of allowed licences: both sides of each `AND`, one side of each `OR`, and each
-    /// licence by some entry that `allows` it. It goes over the parts once, and over the list for each licence.
+    /// Returns whether a list of allowed licences satisfies the expression: both sides of each `AND`, one side of each
+    /// `OR`, and each licence by an entry that `allows` it. It goes over the parts once, and over the list for each
+    /// licence.
     pub fn is_satisfied(&self, allowed: &[Licence]) -> bool
-        // The answer is the truth of the spelled tree, with a licence true exactly if some entry allows it.
+        // The result is the truth of the tree that the parts mean, where a licence is true exactly if some entry allows
+        // it.
         ensures { (t : Tree) → Spells 0 t self.now → result ≡ truth (is_allowed (map term_of allowed.now)) t }
     {
         walk_over(self.parts(), allowed)
     }
 }
 
-/// What going over parts gives.
+/// Returns what is known after going over the parts.
 fn walk_over(parts: &[Part], allowed: &[Licence]) -> bool
     ensures { result ≡ (walk (is_allowed (map term_of allowed.now)) (live false) (pieces parts.now)).value }
 {

@@ -1,5 +1,5 @@
-//! How licences, parts and expressions print. Nothing is allocated, and plain `{}` is what is promised: a width, a fill
-//! or an alignment is not.
+//! How licences, parts and expressions are printed. Printing allocates nothing. The contracts are about plain `{}`, not
+//! about a width, a fill or an alignment.
 
 use crate::{Expected, Found, Licence, LicenceExpression, ParseError, Part, ReadError};
 use std::fmt;
@@ -10,7 +10,7 @@ impl fmt::Display for Licence {
     ghost use Rattle.spdx_expressions.specs.Trees.{term_of};
     ghost use Rattle.spdx_expressions.specs.Print.{print_term};
 
-    // It prints exactly the bytes of the definition.
+    // Prints exactly the bytes that the definition gives.
     ghost output = { λ l. Some (print_term (term_of l)) };
 
     fn fmt<W: fmt::Write>(&self, f: &mut fmt::Formatter<W>) -> fmt::Result {
@@ -33,7 +33,7 @@ impl fmt::Display for Part {
     ghost use Rattle.spdx_expressions.specs.Trees.{piece_of};
     ghost use Rattle.spdx_expressions.specs.Print.{print_piece};
 
-    // It prints exactly the bytes of the definition.
+    // Prints exactly the bytes that the definition gives.
     ghost output = { λ p. Some (print_piece (piece_of p)) };
 
     fn fmt<W: fmt::Write>(&self, f: &mut fmt::Formatter<W>) -> fmt::Result {
@@ -51,7 +51,7 @@ impl fmt::Display for LicenceExpression {
     ghost use Rattle.std.specs.Prelude.{Some};
     ghost use Rattle.spdx_expressions.specs.Print.{print};
 
-    // It prints exactly the bytes of the definition.
+    // Prints exactly the bytes that the definition gives.
     ghost output = { λ e. Some (print e) };
 
     fn fmt<W: fmt::Write>(&self, f: &mut fmt::Formatter<W>) -> fmt::Result {
@@ -63,7 +63,7 @@ impl fmt::Display for Expected {
     ghost use Rattle.std.specs.Prelude.{Some};
     ghost use Rattle.spdx_expressions.specs.Print.{print_expected};
 
-    // It prints exactly the bytes of the definition.
+    // Prints exactly the bytes that the definition gives.
     ghost output = { λ e. Some (print_expected e) };
 
     fn fmt<W: fmt::Write>(&self, f: &mut fmt::Formatter<W>) -> fmt::Result {
@@ -81,7 +81,7 @@ impl fmt::Display for Found {
     ghost use Rattle.std.specs.Prelude.{Some};
     ghost use Rattle.spdx_expressions.specs.Print.{print_found};
 
-    // It prints exactly the bytes of the definition.
+    // Prints exactly the bytes that the definition gives.
     ghost output = { λ e. Some (print_found e) };
 
     fn fmt<W: fmt::Write>(&self, f: &mut fmt::Formatter<W>) -> fmt::Result {
@@ -103,7 +103,7 @@ impl fmt::Display for ParseError {
     ghost use Rattle.std.specs.Prelude.{Some};
     ghost use Rattle.spdx_expressions.specs.Print.{print_error};
 
-    // It prints exactly the bytes of the definition.
+    // Prints exactly the bytes that the definition gives.
     ghost output = { λ e. Some (print_error e) };
 
     fn fmt<W: fmt::Write>(&self, f: &mut fmt::Formatter<W>) -> fmt::Result {
@@ -122,7 +122,7 @@ impl std::error::Error for ParseError {}
 impl fmt::Display for ReadError {
     ghost use Rattle.spdx_expressions.specs.Print.{print_refusal};
 
-    // But for `Memory`, it prints exactly the bytes of the definition.
+    // Prints exactly the bytes that the definition gives, except for `Memory`.
     ghost output = { λ e. print_refusal e };
 
     fn fmt<W: fmt::Write>(&self, f: &mut fmt::Formatter<W>) -> fmt::Result {

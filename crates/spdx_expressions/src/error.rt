@@ -1,24 +1,24 @@
-//! Why a text is refused.
+//! Why a text is rejected.
 
 use std::alloc::{AllocError, Global};
 use std::ops::Range;
 
-/// What could have come where a text goes wrong.
+/// What is allowed at the place of the fault.
 #[derive(Clone, Copy, Debug, PartialEq, Eq)]
 pub enum Expected {
     /// A licence or `(`.
     Licence,
-    /// The identifier of an exception, behind `WITH`.
+    /// The identifier of an exception, after `WITH`.
     Exception,
     /// `AND` or `OR`, where no bracket is open.
     Operator,
-    /// `AND`, `OR` or `)`, where one is.
+    /// `AND`, `OR` or `)`, where a bracket is open.
     OperatorOrClose,
-    /// The end, where one licence is read.
+    /// The end, where a single licence is parsed.
     End,
 }
 
-/// What came instead.
+/// What is at the place of the fault.
 #[derive(Clone, Copy, Debug, PartialEq, Eq)]
 pub enum Found {
     /// The end of the text.
@@ -41,29 +41,29 @@ pub enum Found {
     Unknown,
 }
 
-/// The fault of a text, at its first token that does not fit.
+/// The fault of a text, at its first token that is not allowed.
 #[derive(Debug, Drop)]
 pub struct ParseError {
     /// The whole text.
     pub text: String,
-    /// What could have come.
+    /// What is allowed there.
     pub expected: Expected,
-    /// What came.
+    /// What is there.
     pub found: Found,
-    /// Where that is, in bytes of the text: the token, or the empty span at the end.
+    /// Where the fault is, in bytes of the text: the token, or the empty range at the end.
     pub span: Range<usize>,
 }
 
-/// Why a reader answers nothing.
+/// Why parsing failed.
 #[derive(Debug, Drop)]
 pub enum ReadError {
     /// The text has a fault.
     Parse(ParseError),
-    /// Memory was refused.
+    /// An allocation failed.
     Memory(AllocError),
 }
 
-/// Why nothing was read, before the text is copied.
+/// Why nothing was parsed, before the text is copied.
 #[derive(Drop)]
 pub(crate) enum Refusal {
     Unexpected {
@@ -88,7 +88,7 @@ impl From<AllocError> for Refusal {
 impl Refusal {
     ghost use Rattle.spdx_expressions.specs.Inside.Reading.{Becomes};
 
-    /// The error of the text that is refused.
+    /// Creates the error for the rejected text.
     pub(crate) fn into_error(self, alloc: Global, text: &str) -> ReadError
         ensures { Becomes self text.now result }
     {

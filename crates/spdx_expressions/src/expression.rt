@@ -1,4 +1,4 @@
-//! Expressions: how they are read.
+//! Parses expressions.
 
 use crate::Part;
 use crate::error::ReadError;
@@ -30,23 +30,22 @@ impl LicenceExpression {
     ghost use Rattle.spdx_expressions.specs.Faults.{IsFault};
     ghost use Rattle.spdx_expressions.specs.Errors.{IfParse};
 
-    /// Reads an expression: licences, joined by `AND` and `OR`, with brackets where one likes. A licence is an
-    /// identifier, perhaps with `+` directly behind it, and perhaps with `WITH` and an exception. A `/` is an older
+    /// Parses an expression: licences that are joined by `AND` and `OR`, with brackets around any part. A licence is an
+    /// identifier, which may have `+` directly after it, and `WITH` and an exception after that. A `/` is an older
     /// `OR`. The grammar is that of the SPDX specification 2.3, annex "SPDX license expressions".
     ///
-    /// Any other text is refused with `ReadError::Parse` of its fault: the first token that can't follow those before
-    /// it, or the end that comes too early. Where memory is refused the answer is `ReadError::Memory`, whatever the
-    /// text.
+    /// Returns `ReadError::Parse` for any other text, with its fault: the first token that can't follow those before
+    /// it, or the end if it comes too early. Returns `ReadError::Memory` if an allocation fails, whatever the text.
     pub fn from_str(alloc: Global, text: &str) -> Result<LicenceExpression, ReadError>
-        // `Ok` has the parts that the text is written as, and they spell its tree.
+        // `Ok` has the parts as they are written in the text, and they mean its tree.
         ensures parts { IfOk result (λ e. AreWritten e (tokens text.now)) }
         ensures tree { IfOk result (λ e. (t : Tree) × IsTreeText text.now t × Spells 0 t e) }
-        // `Parse` comes only of a text that spells none.
+        // `Parse` is returned only for a text without a meaning.
         ensures refused { IfParse result (λ _. (t : Tree) → IsTreeText text.now t → ⊥) }
-        // The error has the text, and its fault.
+        // The error has the text and its fault.
         ensures text { IfParse result (λ e. string_bytes e.text ≡ text.now) }
         ensures fault { IfParse result (λ e. IsFault text.now e.expected e.found e.span) }
-        // Answers are well-formed, and what is well-formed reads back from its print.
+        // Results are well-formed, and whatever is well-formed is parsed back from its printed text.
         ensures well_formed { IfOk result (λ e. IsWellFormed e) }
         ensures reads_back { (ps : List Piece) → IsWellFormed ps → text.now ≡ print ps
             → IfOk result (λ e. e ≡ ps) × IfParse result (λ _. ⊥) }
@@ -57,9 +56,9 @@ impl LicenceExpression {
         }
     }
 
-    /// The parts, from left to right.
+    /// Returns the parts, from left to right.
     pub fn parts(&self) -> &[Part]
-        // They are the parts of the expression.
+        // The result has the parts of the expression.
         ensures { pieces result.now ≡ self.now }
     {
         &self.parts

@@ -1,10 +1,10 @@
-//! SPDX licence expressions, as the field `license` of a Cargo manifest has them: read from text, printed, and judged
-//! over a list of allowed licences.
+//! Parses and prints SPDX licence expressions, such as the field `license` of a Cargo manifest has, and decides whether
+//! a list of allowed licences satisfies them.
 //!
-//! The grammar is that of the annex "SPDX license expressions" of the SPDX specification 2.3, by which Cargo's
-//! reference explains the field, and has the older `/` for `OR`. An expression keeps its parts in one list, from left
-//! to right, so that no call takes stack for the depth or the length of a text. What allocates takes the allocator
-//! first and answers a `Result`.
+//! The grammar is that of the annex "SPDX license expressions" of the SPDX specification 2.3, to which Cargo's
+//! reference refers for the field, together with the older `/` for `OR`. An expression keeps its parts in one list,
+//! from left to right, so that no call needs stack for the depth or the length of a text. A function that allocates
+//! takes the allocator first and returns a `Result`.
 #![tactic(auto)]
 
 mod allowed;
@@ -20,15 +20,15 @@ mod words;
 pub use error::{Expected, Found, ParseError, ReadError};
 pub use expression::LicenceExpression;
 
-/// One licence, as it stands in an expression.
+/// One licence of an expression.
 #[derive(Debug, Drop)]
 pub struct Licence {
-    /// The identifier of the licence, as it was written, without `+`: one of the SPDX list, or any other, or
+    /// The identifier of the licence as it was written, without `+`: one of the SPDX list, any other name,
     /// `LicenseRef-..` or `DocumentRef-..:LicenseRef-..`.
     pub id: String,
-    /// Whether `+` stands behind it: this version or any later one.
+    /// Whether `+` follows it: this version or any later one.
     pub or_later: bool,
-    /// The identifier of the exception behind `WITH`.
+    /// The identifier of the exception after `WITH`.
     pub exception: Option<String>,
 }
 

@@ -1,4 +1,4 @@
-//! The reader: one token after another, with the brackets that are open.
+//! Reads one token after another, and counts the brackets that are open.
 
 ghost use Rattle.std.specs.Prelude.{◌≡◌, ◌<◌, ◌≤◌, ◌∷◌, ◌++◌, ◌+◌, ◌≢◌, [], ℕ, List, true, false, length, None, Some};
 ghost use Rattle.std.specs.Prelude.{OnOk, IfOk, IfErr, IsTrue};
@@ -18,19 +18,19 @@ use crate::words::{is_identifier, licence_name};
 use crate::{Licence, Part};
 use std::alloc::{AllocError, Global};
 
-/// A text, the place that was reached in it, and the parts before.
+/// A text, the position that was reached in it, and the parts before it.
 #[derive(Drop)]
 pub(crate) struct Reader<'a> {
     text: &'a str,
     place: usize,
-    /// How many brackets are open.
+    /// The number of open brackets.
     depth: usize,
-    /// Whether an operand is wanted; else one ended.
+    /// Whether an operand has to follow. Otherwise an operand has just ended.
     wanted: bool,
     parts: Vec<Part>,
 }
 
-/// The word for what a token is.
+/// Returns how errors name a token.
 fn found_of(token: Token<'_>) -> Found
     ensures { result ≡ found_in (lexeme token.entry) }
 {
@@ -42,7 +42,7 @@ fn found_of(token: Token<'_>) -> Found
     }
 }
 
-/// The word for what a word is.
+/// Returns how errors name a word.
 fn found_word(word: &str) -> Found
     ensures { result ≡ found_in (Word word.now) }
 {
@@ -59,7 +59,7 @@ fn found_word(word: &str) -> Found
     }
 }
 
-/// The refusal of what comes next.
+/// Returns the refusal of the next token.
 pub(crate) fn refuse(text: &str, expected: Expected, next: Option<Spanned<'_>>) -> Refusal
     ensures { (after : List Placed) → IsNext next.entry after → IsOf text.now after expected result }
 {
@@ -77,7 +77,7 @@ pub(crate) fn refuse(text: &str, expected: Expected, next: Option<Spanned<'_>>) 
     }
 }
 
-/// Appends a part, which is dropped where memory is refused.
+/// Appends a part. Drops it if the allocation fails.
 fn push(parts: &mut Vec<Part>, part: Part) -> Result<(), AllocError>
     ensures { OnOk result (pieces parts.new.items ≡ pieces parts.old.items ++ piece_of part ∷ []) }
 {
@@ -85,14 +85,14 @@ fn push(parts: &mut Vec<Part>, part: Part) -> Result<(), AllocError>
     Ok(())
 }
 
-/// An exception, and where it ends.
+/// An exception, and the position where it ends.
 #[derive(Clone, Copy)]
 pub(crate) struct Exception<'a> {
     pub word: &'a str,
     pub end: usize,
 }
 
-/// The exception that follows a licence: the identifier behind `WITH`, and where it ends.
+/// Reads the exception after a licence: the identifier after `WITH`, and the position where it ends.
 pub(crate) fn exception_at<'a>(text: &'a str, from: usize) -> Result<Option<Exception<'a>>, Refusal>
     requires { IsCharBoundary text.now from }
     ensures found { IfOk result (λ r. MatchOption r
@@ -121,7 +121,7 @@ pub(crate) fn exception_at<'a>(text: &'a str, from: usize) -> Result<Option<Exce
     }
 }
 
-/// Whether a token is `WITH`.
+/// Returns whether a token is `WITH`.
 fn is_with(token: Token<'_>) -> bool
     ensures { IsTrue result ↔ (lexeme token.entry ≡ Word (codes "WITH")) }
 {
@@ -131,7 +131,7 @@ fn is_with(token: Token<'_>) -> bool
     }
 }
 
-/// The identifier that a token is.
+/// Returns the identifier, if the token is one.
 fn identifier_in<'a>(token: Token<'a>) -> Option<&'a str>
     ensures { MatchOption result
         ((t : Term) (n : ℕ) (ps : List Piece) → excepts t n ps (lexeme token.entry) ≡ None)
@@ -149,7 +149,7 @@ fn identifier_in<'a>(token: Token<'a>) -> Option<&'a str>
     }
 }
 
-/// The part that a token is as an operator.
+/// Returns the operator, if the token is one.
 fn operator_in(token: Token<'_>) -> Option<Part>
     ensures { MatchOption result
         (IsNoOperator (lexeme token.entry))
@@ -170,7 +170,7 @@ fn operator_in(token: Token<'_>) -> Option<Part>
     }
 }
 
-/// The name of a licence that a token is, and whether `+` stands behind it.
+/// Returns the name of a licence, if the token is one, and whether `+` follows it.
 pub(crate) fn name_in<'a>(token: Token<'a>) -> Option<(&'a str, bool)>
     ensures { MatchOption result
         (lexeme token.entry ≢ LeftBracket → (n : ℕ) (ps : List Piece) → operand n ps (lexeme token.entry) ≡ None)
@@ -183,14 +183,14 @@ pub(crate) fn name_in<'a>(token: Token<'a>) -> Option<(&'a str, bool)>
     }
 }
 
-/// Whether a token is `(`.
+/// Returns whether a token is `(`.
 fn is_open(token: Token<'_>) -> bool
     ensures { IsTrue result ↔ (lexeme token.entry ≡ LeftBracket) }
 {
     matches!(token, Token::LeftBracket)
 }
 
-/// Whether a token is `)`.
+/// Returns whether a token is `)`.
 fn is_close(token: Token<'_>) -> bool
     ensures { IsTrue result ↔ (lexeme token.entry ≡ RightBracket) }
 {
@@ -198,7 +198,7 @@ fn is_close(token: Token<'_>) -> bool
 }
 
 impl<'a> Reader<'a> {
-    /// Appends a licence, and goes on behind it.
+    /// Appends a licence, and continues after it.
     fn add(
         &mut self,
         alloc: Global,
@@ -228,7 +228,7 @@ impl<'a> Reader<'a> {
         Ok(())
     }
 
-    /// Takes a licence, whose name ends at a place, with the exception that may follow.
+    /// Reads a licence, whose name ends at `end`, and the exception that may follow it.
     fn licence(
         &mut self,
         alloc: Global,
@@ -266,7 +266,7 @@ impl<'a> Reader<'a> {
         }
     }
 
-    /// Takes `(` or a licence.
+    /// Reads `(` or a licence.
     fn operand(&mut self, alloc: Global) -> Result<(), Refusal>
         requires reading { IsReading self.old }
         requires wanted { self.old.wanted ≡ true }
@@ -291,7 +291,7 @@ impl<'a> Reader<'a> {
         }
     }
 
-    /// Takes an operator or `)`, and answers `false` where the expression ends.
+    /// Reads an operator or `)`. Returns `false` if the expression ends instead.
     fn behind(&mut self) -> Result<bool, Refusal>
         requires reading { IsReading self.old }
         requires wanted { self.old.wanted ≡ false }
@@ -328,7 +328,7 @@ impl<'a> Reader<'a> {
     }
 }
 
-/// The parts of a text.
+/// Reads the parts of a text.
 pub(crate) fn read_parts(alloc: Global, text: &str) -> Result<Vec<Part>, Refusal>
     ensures read { IfOk result (λ ps. IsRead text.now (pieces ps.items)) }
     ensures refused { IfErr result (IsStopped text.now) }

@@ -1,4 +1,4 @@
-//! One licence, read on its own: an entry of a list of allowed ones.
+//! Parses a single licence, which is an entry of a list of allowed ones.
 
 ghost use Rattle.std.specs.Prelude.{◌≡◌, IfOk, IfErr, string_bytes};
 ghost use Rattle.spdx_expressions.specs.Trees.{Term, term_of};
@@ -14,14 +14,16 @@ use crate::tokens::token_at;
 use std::alloc::Global;
 
 impl Licence {
-    /// Reads one licence: its identifier, with `+` directly behind it where it has that, and `WITH` and an exception
-    /// where it has one.
+    /// Parses one licence: its identifier, which may have `+` directly after it, and `WITH` and an exception after
+    /// that.
+    ///
+    /// Returns `ReadError::Parse` for any other text, with its fault, or `ReadError::Memory` if an allocation fails.
     pub fn from_str(alloc: Global, text: &str) -> Result<Licence, ReadError>
-        // `Ok` has the licence that the text spells.
+        // `Ok` has the licence that the text means.
         ensures licence { IfOk result (λ l. IsLicenceText text.now (term_of l)) }
-        // `Parse` comes only of a text that spells none.
+        // `Parse` is returned only for a text without a meaning.
         ensures refused { IfParse result (λ _. (t : Term) → IsLicenceText text.now t → ⊥) }
-        // The error has the text, and its fault.
+        // The error has the text and its fault.
         ensures text { IfParse result (λ e. string_bytes e.text ≡ text.now) }
         ensures fault { IfParse result (λ e. IsFaultOfOne text.now e.expected e.found e.span) }
     {
@@ -32,7 +34,7 @@ impl Licence {
     }
 }
 
-/// The licence that a text is.
+/// Reads the licence of a text.
 fn read_one(alloc: Global, text: &str) -> Result<Licence, Refusal>
     ensures licence { IfOk result (λ l. IsLicenceText text.now (term_of l)) }
     ensures refused { IfErr result (IsStoppedAtOne text.now) }

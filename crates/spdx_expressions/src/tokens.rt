@@ -1,4 +1,4 @@
-//! The tokens of a text, each cut off where it is wanted.
+//! Cuts the tokens off a text, each when it is needed.
 
 ghost use Rattle.std.specs.Prelude.{◌≡◌, ◌<◌, ◌≤◌, ◌↔◌, ℕ, [], ◌∷◌, true, false, drop, length, slice_index, IfSome};
 ghost use Rattle.std.specs.Prelude.{MatchOption};
@@ -11,11 +11,11 @@ pub(crate) enum Token<'a> {
     LeftBracket,
     RightBracket,
     Slash,
-    /// Bytes side by side that are no space and no mark.
+    /// Consecutive bytes that are neither spaces nor marks.
     Word(&'a str),
 }
 
-/// A token, and the places in the text at which it begins and ends.
+/// A token, and the positions in the text at which it begins and ends.
 #[derive(Clone, Copy)]
 pub(crate) struct Spanned<'a> {
     pub token: Token<'a>,
@@ -23,7 +23,7 @@ pub(crate) struct Spanned<'a> {
     pub end: usize,
 }
 
-/// The next token from a place on, if there is one.
+/// Returns the next token from a position on, if there is one.
 pub(crate) fn token_at<'a>(text: &'a str, from: usize) -> Option<Spanned<'a>>
     requires { IsCharBoundary text.now from }
     ensures next { MatchOption result
@@ -48,7 +48,7 @@ pub(crate) fn token_at<'a>(text: &'a str, from: usize) -> Option<Spanned<'a>>
     })
 }
 
-/// The token that a byte is, if it is a mark.
+/// Returns the token of a byte, if the byte is a mark.
 fn mark_of<'a>(byte: u8) -> Option<Token<'a>>
     ensures { MatchOption result (is_mark byte ≡ false) (λ t. (is_mark byte ≡ true) × (lexeme t ≡ mark byte)) }
 {
@@ -63,21 +63,21 @@ fn mark_of<'a>(byte: u8) -> Option<Token<'a>>
     }
 }
 
-/// Whether a byte is white space between tokens.
+/// Returns whether a byte is white space between tokens.
 fn is_space(byte: u8) -> bool
     ensures { result ≡ is_space byte }
 {
     byte == b' ' || byte == b'\t'
 }
 
-/// Whether a byte belongs to a word.
+/// Returns whether a byte belongs to a word.
 fn is_word_byte(byte: u8) -> bool
     ensures { result ≡ is_word_byte byte }
 {
     !(is_space(byte) || byte == b'(' || byte == b')' || byte == b'/')
 }
 
-/// The word that begins at a place.
+/// Returns the word that begins at a position.
 fn word_at<'a>(text: &'a str, start: usize) -> Spanned<'a>
     requires boundary { IsCharBoundary text.now start }
     requires within { start < length text.now }
@@ -96,7 +96,7 @@ fn word_at<'a>(text: &'a str, start: usize) -> Spanned<'a>
     }
 }
 
-/// The first place from `from` on with no space.
+/// Returns the first position from `from` on that has no space.
 fn spaces_end(text: &str, from: usize) -> usize
     requires { IsCharBoundary text.now from }
     ensures order { from ≤ result }
@@ -113,7 +113,7 @@ fn spaces_end(text: &str, from: usize) -> usize
     at
 }
 
-/// The first place from `from` on with no byte of a word.
+/// Returns the first position from `from` on that has no byte of a word.
 fn word_end(text: &str, from: usize) -> usize
     requires { from ≤ length text.now }
     ensures order { from ≤ result }

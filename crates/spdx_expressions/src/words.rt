@@ -1,4 +1,4 @@
-//! What a word is: an operator, an identifier, or the name of a licence.
+//! Decides whether a word is an operator, an identifier, or the name of a licence.
 
 ghost use Rattle.std.specs.Prelude.{◌≡◌, None, Some, MatchOption};
 ghost use Rattle.std.specs.List.{list_all};
@@ -7,56 +7,56 @@ ghost use Rattle.spdx_expressions.specs.Inside.Reading.{named};
 ghost use Rattle.spdx_expressions.specs.Words.{is_own_reference, is_foreign_reference, is_listed, is_name};
 ghost use Rattle.spdx_expressions.specs.Words.{ends_with_plus};
 
-/// An ASCII letter, an ASCII digit, `-` or `.`.
+/// Returns whether a byte is an ASCII letter, an ASCII digit, `-` or `.`.
 fn is_id_byte(byte: u8) -> bool
     ensures { result ≡ is_id_byte byte }
 {
     byte.is_ascii_alphanumeric() || byte == b'-' || byte == b'.'
 }
 
-/// The `idstring` of the grammar.
+/// Returns whether bytes are an `idstring` of the grammar.
 fn is_id_string(bytes: &[u8]) -> bool
     ensures { result ≡ is_id_string bytes.now }
 {
     !bytes.is_empty() && are_id_bytes(bytes)
 }
 
-/// Whether each byte may stand in an `idstring`.
+/// Returns whether each byte may be in an `idstring`.
 fn are_id_bytes(bytes: &[u8]) -> bool
     ensures { result ≡ list_all is_id_byte bytes.now }
 {
     bytes.iter().all(|b| is_id_byte(*b))
 }
 
-/// Whether a word is `AND`, `OR` or `WITH`.
+/// Returns whether a word is `AND`, `OR` or `WITH`.
 fn is_operator(word: &str) -> bool
     ensures { result ≡ is_operator word.now }
 {
     word == "AND" || word == "OR" || word == "WITH"
 }
 
-/// Whether a word is an identifier.
+/// Returns whether a word is an identifier.
 pub(crate) fn is_identifier(word: &str) -> bool
     ensures { result ≡ is_identifier word.now }
 {
     is_id_string(word.as_bytes()) && !is_operator(word)
 }
 
-/// Whether bytes begin with a prefix, and go on.
+/// Returns whether bytes begin with a prefix and have more bytes after it.
 fn goes_on(prefix: &[u8], bytes: &[u8]) -> bool
     ensures { result ≡ goes_on prefix.now bytes.now }
 {
     bytes.starts_with(prefix) && prefix.len() < bytes.len()
 }
 
-/// `LicenseRef-` and an `idstring`.
+/// Returns whether bytes are `LicenseRef-` and an `idstring`.
 fn is_own_reference(bytes: &[u8]) -> bool
     ensures { result ≡ is_own_reference bytes.now }
 {
     is_id_string(bytes) && goes_on(b"LicenseRef-", bytes)
 }
 
-/// `DocumentRef-`, an `idstring`, `:` and such a reference.
+/// Returns whether a name is `DocumentRef-`, an `idstring`, `:`, and `LicenseRef-` with an `idstring`.
 #[tactic(auto, using(crate::proofs::Names::no_reference))]
 fn is_foreign_reference(name: &str) -> bool
     ensures { result ≡ is_foreign_reference name.now }
@@ -71,7 +71,7 @@ fn is_foreign_reference(name: &str) -> bool
     }
 }
 
-/// Whether a name may stand in the list of SPDX.
+/// Returns whether SPDX's list of licences could have a name.
 fn is_listed(name: &str) -> bool
     ensures { result ≡ is_listed name.now }
 {
@@ -80,7 +80,7 @@ fn is_listed(name: &str) -> bool
         && !name.as_bytes().starts_with(b"DocumentRef-")
 }
 
-/// Whether a text is the name of a licence, by whether `+` stands behind it.
+/// Returns whether a text is the name of a licence. `or_later` says whether `+` follows it.
 fn is_name(or_later: bool, name: &str) -> bool
     ensures { result ≡ is_name or_later name.now }
 {
@@ -88,14 +88,14 @@ fn is_name(or_later: bool, name: &str) -> bool
         || (!or_later && (is_own_reference(name.as_bytes()) || is_foreign_reference(name)))
 }
 
-/// Whether the last byte is `+`.
+/// Returns whether the last byte is `+`.
 fn ends_with_plus(bytes: &[u8]) -> bool
     ensures { result ≡ ends_with_plus bytes.now }
 {
     !bytes.is_empty() && bytes[bytes.len() - 1] == b'+'
 }
 
-/// The name of a licence that a word is, and whether `+` stands behind it.
+/// Returns the name of a licence in a word, if the word is one, and whether `+` follows it.
 pub(crate) fn licence_name<'a>(word: &'a str) -> Option<(&'a str, bool)>
     ensures { MatchOption result (named word.now ≡ None)
         (λ r. named word.now ≡ Some (record { name = r.0.now; or_later = r.1; exception = None })) }

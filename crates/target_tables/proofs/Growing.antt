@@ -79,7 +79,7 @@ one_block row texts ys rows some filled spell end h = (
   h,
 )
 
--- what ends a block before the rest ends it before what stands in the place of the rest
+-- what ends a block before the rest ends it before what is in place of the rest
 still_ends : (gap rest ys : List (List ℕ)) → AreEmpty gap → IsBlockEnd (gap ++ rest)
     → ((others : List (List ℕ)) → rest ≢ [] ∷ others) → (rest ≡ [] → ys ≡ []) → IsBlockEnd (gap ++ ys)
 still_ends [] rest ys e (inl none) next at = inl (at none)
@@ -253,7 +253,7 @@ at_line A B P Q (Line n e) f h = f n e h
 at_line A B P Q (Twice n) f h = tt
 at_line A B P Q (Memory e) f h = tt
 
--- what is said of the line of an error that is passed on
+-- a statement about the line of an error that is passed on
 pub passed_on : (A B : Type 0) (P Q : ℕ → ParseError → Type 0) (r : TableError) (answer : Result B TableError)
     → IsErrAnd answer (λ x. x ≡ r) → ((n : ℕ) (e : ParseError) → P n e → Q n e) → IfLine {A = A} (Err r) P
     → IfLine answer Q

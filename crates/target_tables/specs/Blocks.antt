@@ -1,4 +1,4 @@
--- For private functions: what stands at the front of lines.
+-- For private functions: the beginning of lines.
 use Rattle.std.specs.Prelude.{◌≡◌, ◌≢◌, ◌+◌, ℕ, List, [], ◌∷◌, ◌++◌, length}
 use Rattle.cargo_platform.specs.Trees.{CfgValue}
 use Rattle.cargo_platform.specs.Spelling.{Values}
@@ -9,7 +9,7 @@ use Rattle.cargo_platform.specs.FactLines.{SpellFacts, IsFirstNoFact}
 use Rattle.cargo_platform.specs.declared.error.ParseError.{ParseError}
 use Rattle.target_tables.specs.Rows.{Row, AreRows, AreDistinct, AreEmpty, AreFilled, IsBlockEnd}
 
--- so many empty lines, and then the rest, which begins with none
+-- this many empty lines, and then the rest, which begins with none
 pub record IsBehindEmpty (ls : List (List ℕ)) (many : ℕ) (rest : List (List ℕ)) : Type 0 where
   pub gap : List (List ℕ)
   pub lines : ls ≡ gap ++ rest
@@ -31,7 +31,7 @@ pub record IsBlock (ls : List (List ℕ)) (facts : List CfgValue) (rest : List (
   pub spell : SpellFacts texts facts
   pub end : IsBlockEnd rest
 
--- the error of the first of these lines that spells no fact, where so many lines stand before them
+-- the error of the first of these lines that spells no fact, where this many lines are before them
 pub record IsNoFactOf (ls : List (List ℕ)) (before n : ℕ) (e : ParseError) : Type 0 where
   pub at : ℕ
   pub number : n ≡ before + at
@@ -47,8 +47,9 @@ pub record IsNoFactBehind (ls : List (List ℕ)) (before n : ℕ) (e : ParseErro
   pub filled : AreFilled texts
   pub error : IsNoFactOf texts before n e
 
--- So many lines are read, as those of the rows, each with a name of its own, and the rest is left, which begins with no
--- empty line. Whatever rows stand in the place of the rest, if one does, they come after these.
+-- This many lines are read as those of the rows, each with a name of its own, and the rest is left, which does not
+-- begin with an empty line. If the rest is replaced by the lines of other rows, these come after the rows that were
+-- read.
 pub record AreRead (ls : List (List ℕ)) (rows : List Row) (passed : ℕ) (rest : List (List ℕ)) : Type 0 where
   pub taken : List (List ℕ)
   pub lines : ls ≡ taken ++ rest

@@ -1,6 +1,6 @@
--- Rows: a table apart from memory, and the blocks of lines that it is read from
+-- Rows: a table, whatever its place in memory, and the blocks of lines that it is read from
 pub mod Rows
 -- Refusals: the first line for which a text is refused
 pub mod Refusals
--- Blocks: for private functions, what stands at the front of lines
+-- Blocks: for private functions, the beginning of lines
 pub mod Blocks

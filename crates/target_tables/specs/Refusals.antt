@@ -11,14 +11,14 @@ use Rattle.target_tables.specs.Rows.{Row, AreRows, AreDistinct, name_at}
 use Rattle.target_tables.specs.declared.error.TableError.{TableError}
 use Rattle.target_tables.specs.declared.error.TableError.TheVariants.{Line, Twice, Memory}
 
--- what is said of a line that spells no fact: its number, and its error
+-- a statement about a line that spells no fact: its number, and its error
 abbrev pub IfLine : {A : Type 0} → Result A TableError → (ℕ → ParseError → Type 0) → Type 0
 IfLine (Ok a) P = Unit {0}
 IfLine (Err (Line n e)) P = P n e
 IfLine (Err (Twice n)) P = Unit {0}
 IfLine (Err (Memory e)) P = Unit {0}
 
--- what is said of a line that names a target again: its number
+-- a statement about a line that names a target again: its number
 abbrev pub IfTwice : {A : Type 0} → Result A TableError → (ℕ → Type 0) → Type 0
 IfTwice (Ok a) P = Unit {0}
 IfTwice (Err (Line n e)) P = Unit {0}

@@ -41,7 +41,7 @@ AreFilled ls = AllByRecursion (λ l. l ≢ []) ls
 abbrev pub IsBlockEnd : List (List ℕ) → Type 0
 IsBlockEnd ls = (ls ≡ []) ⊎ ((others : List (List ℕ)) × (ls ≡ [] ∷ others))
 
--- The lines are those of the row and the rest. Those of the row stand behind empty lines, and no line is empty of
+-- The lines are those of the row and the rest. Those of the row are after empty lines, and no line is empty of
 -- them: the first is its name, and the others spell its facts. They go up to an empty line, or to the end.
 pub record BeginWith (ls : List (List ℕ)) (row : Row) (rest : List (List ℕ)) : Type 0 where
   pub gap : List (List ℕ)

@@ -6,7 +6,7 @@ ghost use Rattle.target_tables.specs.Blocks.{IsBehindEmpty, IsFilledFront};
 
 use std::alloc::{AllocError, Global};
 
-/// Returns the first line of a text, and what stands behind its end.
+/// Returns the first line of a text, and the text after its end.
 pub fn first_line(text: &str) -> (&str, &str)
     ensures lines { text.now ≢ [] → lines_of text.now ≡ result.0.now ∷ lines_of result.1.now }
     ensures unbroken { IsUnbroken result.0.now }
@@ -19,7 +19,7 @@ pub fn first_line(text: &str) -> (&str, &str)
     }
 }
 
-/// Returns what stands behind the empty lines with which a text begins, and how many these are.
+/// Returns the text after the empty lines at its beginning, and the number of these lines.
 pub fn behind_empty(text: &str) -> (&str, usize)
     ensures lines { IsBehindEmpty (lines_of text.now) result.1 (lines_of result.0.now) }
     ensures length { result.1 + length result.0.now ≤ length text.now }
@@ -35,7 +35,7 @@ pub fn behind_empty(text: &str) -> (&str, usize)
     (rest, many)
 }
 
-/// Returns the lines with which a text begins, up to an empty one, each with its end, and what stands behind them.
+/// Returns the lines at the beginning of a text, up to an empty one, each with its end, and the text after them.
 pub fn filled_front(alloc: Global, text: &str) -> Result<(String, &str), AllocError>
     ensures lines { IfOk result
         (λ r. IsFilledFront (lines_of text.now) (string_bytes r.0) (lines_of r.1.now)) }

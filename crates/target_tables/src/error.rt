@@ -18,7 +18,7 @@ pub enum TableError {
         /// The number of the line in the whole text, counted from 1.
         number: usize,
     },
-    /// Memory was refused.
+    /// An allocation failed.
     Memory(AllocError),
 }
 

@@ -1,6 +1,6 @@
-//! Tables of the targets that some rustc knows, read from a text: their names and facts, and where a condition holds.
+//! Parses tables of the targets that some rustc knows: their names and facts, and on which of them a condition is true.
 //!
-//! What allocates takes the allocator first and answers a `Result`.
+//! A function that allocates takes the allocator first and returns a `Result`.
 #![tactic(auto)]
 
 mod blocks;

@@ -14,7 +14,7 @@ use crate::table::{TargetRow, TargetTable, place_of};
 use cargo_platform::{Cfg, FactsError, read_facts};
 use std::alloc::{AllocError, Global};
 
-/// Returns the facts of a target, of which this many lines of the whole text stand before the first.
+/// Returns the facts of a target. `before` is the number of lines of the whole text before the first of them.
 fn read_block(alloc: Global, before: usize, text: &str) -> Result<Vec<Cfg>, TableError>
     requires { before + length (lines_of text.now) < 2 ^ 64 }
     ensures facts { IfOk result (λ v. SpellFacts (lines_of text.now) (map value_of v.items)) }
@@ -31,8 +31,8 @@ fn read_block(alloc: Global, before: usize, text: &str) -> Result<Vec<Cfg>, Tabl
     }
 }
 
-/// Returns the row of a target with this name, whose facts stand at the beginning of a text, behind this many lines of
-/// the whole text, and what stands behind them.
+/// Returns the row of a target with this name, whose facts are at the beginning of a text, and the text after them.
+/// `before` is the number of lines of the whole text before it.
 fn read_row<'a>(
     alloc: Global,
     name: &str,
@@ -53,18 +53,19 @@ fn read_row<'a>(
     Ok((TargetRow { name, facts }, behind))
 }
 
-/// Reads the targets of a rustc: for each a line with its name, and then its facts, one a line, as `rustc --print cfg
-/// --target NAME` prints them. Empty lines part the targets; more of them may stand before, between and behind.
+/// Parses the targets of a rustc: for each target a line with its name and then its facts, one on each line, as
+/// `rustc --print cfg --target NAME` prints them. Empty lines separate the targets. There may be several, also before
+/// the first target and after the last one.
 ///
-/// A line ends with `\n` and with nothing else. A text with a line that spells no fact is refused with
-/// `TableError::Line`, and one that names a target for the second time with `TableError::Twice`, whichever comes first.
-/// Where memory is refused the answer is `TableError::Memory`.
+/// A line ends with `\n` and with nothing else. Returns `TableError::Line` for the first line that is not a fact, or
+/// `TableError::Twice` for the first target that was named before, whichever comes first. Returns `TableError::Memory`
+/// if an allocation fails.
 pub fn read_table(alloc: Global, text: &str) -> Result<TargetTable, TableError>
-    // The rows are exactly the blocks of the text, in order: each with its name, and the facts that its lines spell.
+    // The rows are exactly the blocks of the text, in order: each with its name, and the facts that its lines mean.
     ensures rows { IfOk result (λ table. AreRows (lines_of text.now) (rows_of table)) }
     // No two rows have the same name.
     ensures distinct { IfOk result (λ table. AreDistinct (rows_of table)) }
-    // The line of the error is the first that spells no fact or names a target again, by its number in the whole text.
+    // The line of the error is the first that is not a fact or names a target again, by its number in the whole text.
     ensures no_fact { IfLine result (λ n e. IsNoFact (lines_of text.now) n e) }
     ensures twice { IfTwice result (λ n. IsRepeat (lines_of text.now) n) }
 {

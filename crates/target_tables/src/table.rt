@@ -34,7 +34,7 @@ impl TargetRow {
 
     /// Returns whether the condition is true on the target, by its name and its facts.
     pub fn matches(&self, platform: &Platform) -> bool
-        // The answer is yes exactly if the condition holds at the target.
+        // It is true exactly if the condition is true on the target.
         ensures truth { result ≡ truth_of_condition (row_of self.now).name (fact_set (row_of self.now).facts)
             (condition_of platform.now) }
         ensures applies { IsTrue result ↔ IsTrueCondition (row_of self.now).name (fact_set (row_of self.now).facts)
@@ -67,10 +67,10 @@ impl TargetTable {
         row_named(&self.rows, name)
     }
 
-    /// Returns the places of the rows on which the condition is true, by their names and facts. Fails only where memory
-    /// runs out.
+    /// Returns the places of the rows on which the condition is true, by their names and facts. Fails only if an
+    /// allocation fails.
     pub fn matching(&self, alloc: Global, platform: &Platform) -> Result<Vec<usize>, AllocError>
-        // They are the places of all rows at which the condition holds, and of no other, in order.
+        // They are the indexes of all rows on which the condition is true, and no others, in order.
         ensures { IfOk result (λ places. places.items
             ≡ filter (holds_at (rows_of self.now) (condition_of platform.now))
             (range_with_len 0 (length (rows_of self.now)))) }
@@ -90,7 +90,7 @@ fn row_named<'a>(rows: &'a [TargetRow], name: &str) -> Option<&'a TargetRow>
     }
 }
 
-/// Returns the place of the row with this name.
+/// Returns the index of the row with this name.
 pub(crate) fn place_of(rows: &[TargetRow], name: &str) -> Option<usize>
     ensures found { IfSome result (λ k. name_at (map row_of rows.now) k ≡ name.now) }
     ensures within { IfSome result (λ k. k < length rows.now) }

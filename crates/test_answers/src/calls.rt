@@ -10,6 +10,7 @@ use test_rows::fields::Fields;
 use test_rows::forms::printed;
 use test_rows::texts::platform;
 
+/// Returns the answer to a row whose words are `fields`. `call` is the part of its kind after the dot.
 pub fn answer(alloc: Global, call: &str, fields: &mut Fields<'_>) -> Result<String, Fault> {
     match call {
         "rule" => rule(alloc),

@@ -15,6 +15,7 @@ use test_rows::fields::Fields;
 use test_rows::forms::{self, word};
 use test_rows::texts::{platform, spelled};
 
+/// Returns the answer to a row whose words are `fields`. `call` is the part of its kind after the dot.
 pub fn answer(alloc: Global, call: &str, fields: &mut Fields<'_>) -> Result<String, Fault> {
     match call {
         "targets" | "set" | "names" | "open" | "bounds" => of_key(alloc, call, fields),

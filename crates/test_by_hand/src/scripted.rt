@@ -14,8 +14,10 @@ pub struct Calls {
     pub end: u64,
 }
 
+/// No call.
 pub const NEVER: Calls = Calls { first: 0, end: 0 };
 
+/// Returns the call with this number alone.
 pub fn only(number: u64) -> Calls {
     Calls {
         first: number,
@@ -69,6 +71,7 @@ pub struct ScriptedReader<'a> {
     pub empty_pieces: u64,
 }
 
+/// Returns a reader of the text and then of `letters` times `a`, none of whose calls goes wrong.
 pub fn reader_over(text: &[u8], letters: u64) -> ScriptedReader<'_> {
     ScriptedReader {
         text,

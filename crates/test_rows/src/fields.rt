@@ -46,6 +46,7 @@ fn end_of_word(text: &str) -> usize {
 }
 
 impl<'a> Fields<'a> {
+    /// Returns the fields of a row, which may include these settings.
     pub fn new(row: &'a str, settings: &'a [Setting]) -> Fields<'a> {
         Fields {
             left: row,

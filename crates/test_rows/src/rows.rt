@@ -24,6 +24,7 @@ pub struct Counts {
 }
 
 impl Counts {
+    /// Returns counts of no rows.
     pub fn new() -> Counts {
         Counts {
             asked: 0,
@@ -33,10 +34,12 @@ impl Counts {
         }
     }
 
+    /// Returns whether no row was counted.
     pub fn is_empty(&self) -> bool {
         self.asked == 0 && self.as_stated == 0 && self.otherwise == 0 && self.memory == 0
     }
 
+    /// Prints the numbers of rows, unless no row has an expected answer.
     pub fn print(&self, rt: &impl Print) -> io::Result<()> {
         let as_stated = self.as_stated;
         let otherwise = self.otherwise;
@@ -50,6 +53,7 @@ impl Counts {
         println!(rt; "{as_stated} rows as stated, {otherwise} otherwise, {memory} without memory")
     }
 
+    /// Returns the exit status of the program.
     pub fn status(&self) -> u8 {
         if self.otherwise > 0 {
             return 1;

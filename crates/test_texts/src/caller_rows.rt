@@ -28,6 +28,7 @@ const LINE: usize = 7;
 /// A key that is in no row.
 const OTHER: &str = "cfg(other)";
 
+/// Returns the answer to a row whose words are `fields`. `call` is the part of its kind after the dot.
 pub fn answer(alloc: Global, call: &str, fields: &mut Fields<'_>) -> Result<String, Fault> {
     if call == "unix" {
         return unix(alloc, fields);

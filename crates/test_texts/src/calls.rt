@@ -7,6 +7,7 @@ use test_rows::fields::Fields;
 use test_rows::forms::{self, add_error, add_tree, tree, word};
 use test_rows::texts::spelled;
 
+/// Returns the answer to a row whose words are `fields`. `call` is the part of its kind after the dot.
 pub fn answer(alloc: Global, call: &str, fields: &mut Fields<'_>) -> Result<String, Fault> {
     let text = fields.text(alloc)?;
     match call {

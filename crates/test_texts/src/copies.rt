@@ -9,6 +9,7 @@ use test_rows::forms::{self, add_name, add_value, word};
 use test_rows::texts::spelled;
 use test_rows::{Fault, made_facts};
 
+/// Returns the answer to a row whose words are `fields`. `call` is the part of its kind after the dot.
 pub fn answer(alloc: Global, call: &str, fields: &mut Fields<'_>) -> Result<String, Fault> {
     match call {
         "name" => name(alloc, fields.need()?),

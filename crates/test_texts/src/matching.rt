@@ -7,6 +7,7 @@ use test_rows::fields::Fields;
 use test_rows::forms::{word, yes};
 use test_rows::{Fault, made_facts};
 
+/// Returns the answer to a row whose words are `fields`. `call` is the part of its kind after the dot.
 pub fn answer(alloc: Global, call: &str, fields: &mut Fields<'_>) -> Result<String, Fault> {
     match call {
         "expr" => over_each(alloc, fields),

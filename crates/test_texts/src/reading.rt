@@ -15,6 +15,7 @@ use test_rows::{Fault, trees};
 /// number from here.
 const LOOKS_A_CHARACTER: u128 = 12;
 
+/// Returns the answer to a row whose words are `fields`. `call` is the part of its kind after the dot.
 pub fn answer(alloc: Global, call: &str, fields: &mut Fields<'_>) -> Result<String, Fault> {
     match call {
         "print" => print(alloc, trees::tree(alloc, fields)?),

@@ -7,6 +7,7 @@ use test_rows::bars::{add_text, barred};
 use test_rows::fields::Fields;
 use test_rows::forms::word;
 
+/// Returns the answer to a row whose words are `fields`. `call` is the part of its kind after the dot.
 pub fn answer(alloc: Global, call: &str, fields: &mut Fields<'_>) -> Result<String, Fault> {
     let text = fields.text(alloc)?;
     match call {

@@ -23,6 +23,7 @@ const ON_FEATURE: &str =
 /// The warning that is in the list before the others.
 const BEFORE: &str = "w";
 
+/// Returns the answer to a row whose words are `fields`. `call` is the part of its kind after the dot.
 pub fn answer(alloc: Global, call: &str, fields: &mut Fields<'_>) -> Result<String, Fault> {
     match call {
         "attributes" => of_attributes(alloc, fields),

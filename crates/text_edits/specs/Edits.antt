@@ -11,8 +11,8 @@ pub record Fits (text : List ℕ) (at : ℕ) (edit : Edit) : Type 0 where
   pub start : IsCharBoundary text edit.start
   pub end : IsCharBoundary text edit.end
 
--- The text from this byte on is edited to these bytes, and so many edits are left out. Behind the last edit, the text
--- is kept. An edit that fits is applied: what is before it is kept, its text follows, and then the text behind it is
+-- The text from this byte on is edited to these bytes, and this many edits are left out. After the last edit, the text
+-- is kept. An edit that fits is applied: what is before it is kept, its text follows, and then the text after it is
 -- edited. An edit that does not fit is left out.
 pub data Edited : List ℕ → ℕ → List Edit → List ℕ → ℕ → Type 0 where
   ends : (text : List ℕ) (at : ℕ) → Edited text at [] (drop at text) 0

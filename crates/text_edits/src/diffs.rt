@@ -161,8 +161,8 @@ impl<'a> Writer<'a> {
 }
 
 /// Returns a unified diff between a text and the text after edits, `new`, as `apply` returns it: of each changed line,
-/// with three lines of context. Without a change, the diff is empty. It goes through the texts once. Fails if memory
-/// is refused.
+/// with three lines of context. Without a change, the diff is empty. It goes through the texts once. Fails if an
+/// allocation fails.
 pub fn unified_diff(
     alloc: Global,
     path: &str,

@@ -34,7 +34,7 @@ pub(crate) fn fits(text: &str, at: usize, edit: &Edit) -> bool
 }
 
 /// Applies edits to a text, in their order. An edit is left out if it does not fit the text behind the last one that
-/// was applied. Fails if memory is refused.
+/// was applied. Fails if an allocation fails.
 pub fn apply(alloc: Global, text: &str, edits: &[Edit]) -> Result<Applied, AllocError>
     ensures { IfOk result (λ it. Edited text.now 0 edits.now (string_bytes it.text) it.left) }
 {

@@ -74,7 +74,7 @@ impl Hunk {
         }
     }
 
-    /// Appends a line. Fails if memory is refused.
+    /// Appends a line. Fails if an allocation fails.
     fn push_line(&mut self, mark: Mark, line: &str) -> Result<(), AllocError> {
         self.count_line(mark);
         self.body.push(match mark {
@@ -89,7 +89,7 @@ impl Hunk {
         self.body.push_str(NO_NEWLINE)
     }
 
-    /// Appends lines. Fails if memory is refused.
+    /// Appends lines. Fails if an allocation fails.
     pub(crate) fn push(&mut self, mark: Mark, lines: &str) -> Result<(), AllocError> {
         for line in lines.split_inclusive('\n') {
             self.push_line(mark, line)?;
@@ -97,7 +97,7 @@ impl Hunk {
         Ok(())
     }
 
-    /// Appends the hunk to a diff, unless it has no lines. Fails if memory is refused.
+    /// Appends the hunk to a diff, unless it has no lines. Fails if an allocation fails.
     pub(crate) fn write(&self, alloc: Global, diff: &mut String) -> Result<(), AllocError> {
         if self.is_empty() {
             return Ok(());

@@ -21,7 +21,7 @@ fn is_name(key: &Key, name: &str) -> bool
     key.last.as_str() == name
 }
 
-/// Returns whether a text is a key that consists of this one name. Fails if memory is refused.
+/// Returns whether a text is a key that consists of this one name. Fails if an allocation fails.
 #[tactic(auto, using(crate::proofs::Views::nothing))]
 pub fn spells(alloc: Global, text: &str, name: &str) -> Result<bool, AllocError>
     // A text that is said to spell a name spells it.
@@ -45,7 +45,7 @@ fn bare_len(text: &str) -> usize {
 }
 
 /// Reads the name at the front of a text: a string, or an unquoted name. Returns it with the text after it. Fails if
-/// there is no name, or memory is refused.
+/// there is no name, or an allocation fails.
 pub fn name_at_front(alloc: Global, text: &str) -> Result<(String, &str), ParseError> {
     if starts_string(text) {
         return quoted(alloc, text);
@@ -187,7 +187,7 @@ fn spells_between(alloc: Global, quote: &str, text: &str, name: &str) -> Result<
 
 /// Returns the span in `text` that spells a part of a name, so that an escape is a whole part of it. `span` is where
 /// the text spells `name`, and `part` the bytes of the part in the name. Returns `None` if there is no such part. Fails
-/// if memory is refused.
+/// if an allocation fails.
 pub fn part_of_name(
     alloc: Global,
     text: &str,

@@ -19,7 +19,7 @@ IsTakenBy pattern path =
 abbrev pub IsTakenBySome : List Pattern → Path → Type 0
 IsTakenBySome patterns path = (p : Pattern) × Contains patterns p × IsTakenBy p path
 
--- it is in or below an excluded folder, and in and below none that `members` names as it stands
+-- it is in or below an excluded folder, and in and below none that `members` names as it is
 abbrev pub IsExcluded : Rules → Path → Type 0
 IsExcluded rules path = IsTakenBySome rules.excluded.items path × (IsTakenBySome rules.named.items path → ⊥)
 

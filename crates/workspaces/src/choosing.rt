@@ -288,7 +288,7 @@ fn add_unneeded(
 /// Leaves the manifests whose packages are chosen, without those that are left out. What no manifest matches is
 /// reported.
 ///
-/// Fails only where memory runs out.
+/// Fails only if an allocation fails.
 pub fn choose<R: Files + Env + AllocGlobal>(
     rt: &R,
     documents: &mut Documents,

@@ -204,7 +204,7 @@ impl Documents {
     /// Uses a text as that of the manifest at a path, whether or not the file exists. `table` is what the text spells,
     /// if it is TOML.
     ///
-    /// Fails only where memory runs out.
+    /// Fails only if an allocation fails.
     pub fn put<R: Files + AllocGlobal>(
         &mut self,
         rt: &R,
@@ -221,7 +221,7 @@ impl Documents {
 
     /// Returns the text that is used as that of the manifest at a path, if one was given.
     ///
-    /// Fails only where memory runs out.
+    /// Fails only if an allocation fails.
     pub fn given_text<R: Files + AllocGlobal>(
         &self,
         rt: &R,
@@ -236,7 +236,7 @@ impl Documents {
 
     /// Returns the manifest at a path, unless it can't be read, has more bytes than the limit, or is no TOML.
     ///
-    /// Fails only where memory runs out.
+    /// Fails only if an allocation fails.
     pub fn get<R: Files + AllocGlobal>(
         &mut self,
         rt: &R,
@@ -251,7 +251,7 @@ impl Documents {
 
     /// Returns where the root of the workspace of the manifest at a path is, by that manifest.
     ///
-    /// Fails only where memory runs out.
+    /// Fails only if an allocation fails.
     pub(crate) fn root_place<R: Files + AllocGlobal>(
         &mut self,
         rt: &R,
@@ -266,7 +266,7 @@ impl Documents {
 
     /// Records that the manifests at these paths are to be taken, each as often as it occurs.
     ///
-    /// Fails only where memory runs out.
+    /// Fails only if an allocation fails.
     pub(crate) fn expect_uses<R: Files + AllocGlobal>(
         &mut self,
         rt: &R,
@@ -284,7 +284,7 @@ impl Documents {
     /// Takes the manifest at a path out, if it has been read and can be used. If it is still needed, it is copied.
     /// Standard input has not been read.
     ///
-    /// Fails only where memory runs out.
+    /// Fails only if an allocation fails.
     pub fn take<R: Files + AllocGlobal>(
         &mut self,
         rt: &R,

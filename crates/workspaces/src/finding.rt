@@ -80,7 +80,7 @@ fn file_of<R: Files + AllocGlobal>(rt: &R, path: &str) -> Result<String, AllocEr
 /// Uses a text as that of the manifest that an argument names, which for a folder is the folder's manifest. Returns the
 /// path of the manifest.
 ///
-/// Fails only where memory runs out.
+/// Fails only if an allocation fails.
 pub fn put_text<R: Files + AllocGlobal>(
     rt: &R,
     documents: &mut Documents,
@@ -147,7 +147,7 @@ fn root_above<R: Files + Env + AllocGlobal>(
 /// `package.workspace` names, or the nearest one above with a table `workspace`. If it belongs to no workspace, this is
 /// its own path. Manifests that can't be used are skipped.
 ///
-/// Fails only where memory runs out.
+/// Fails only if an allocation fails.
 pub fn root_of<R: Files + Env + AllocGlobal>(
     rt: &R,
     documents: &mut Documents,
@@ -286,7 +286,7 @@ fn once_from_here<R: Files + Env + AllocGlobal>(
 /// Finds the selected manifests. Returns each once, in the order of the arguments: the root of a workspace before its
 /// members, and these in the order of their paths. The manifests that are read for this stay in `documents`.
 ///
-/// Fails only where memory runs out.
+/// Fails only if an allocation fails.
 pub fn find<R: Files + Env + AllocGlobal + Clone + Drop>(
     rt: &R,
     documents: &mut Documents,

@@ -180,7 +180,7 @@ fn start_of(text: &str) -> &'static str {
 /// Returns the paths of the folders that the pattern of this text may match. They begin at the root, or are absolute if
 /// the pattern is.
 ///
-/// Fails only where memory runs out.
+/// Fails only if an allocation fails.
 pub fn candidates<R: Files + AllocGlobal + Clone + Drop>(
     rt: &R,
     root: &str,

@@ -54,7 +54,7 @@ impl Inheritable {
 
     /// Returns what the manifest of a root has for packages to inherit.
     ///
-    /// Fails only where memory runs out.
+    /// Fails only if an allocation fails.
     pub fn of(alloc: Global, root: &Document) -> Result<Inheritable, AllocError> {
         let workspace = root.workspace();
         let rust_version = match workspace_rust_version(workspace) {
@@ -71,7 +71,7 @@ impl Inheritable {
 
     /// Puts the lints of the root in place of those of a manifest that inherits lints, if the root has any.
     ///
-    /// Fails only where memory runs out.
+    /// Fails only if an allocation fails.
     pub fn put_lints(&self, alloc: Global, manifest: &mut Table) -> Result<(), AllocError> {
         if inherits_lints(manifest) {
             if let Some(lints) = &self.lints {
@@ -97,7 +97,7 @@ impl Inheritable {
     /// Returns the lints that hold outside of packages: those of the table `workspace` or, without any, those of the
     /// root's own package.
     ///
-    /// Fails only where memory runs out.
+    /// Fails only if an allocation fails.
     pub fn lints_outside_packages(&self) -> Result<Option<Value>, AllocError> {
         let lints = match &self.lints {
             Some(lints) => lints,

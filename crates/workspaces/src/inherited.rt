@@ -330,7 +330,7 @@ pub fn inherits(manifest: &Table) -> bool {
 /// Puts what a manifest inherits from the table `workspace` of a root in the places that say so: the edition of its
 /// package, and its dependencies. What Cargo rejects stays as it is.
 ///
-/// Fails only where memory runs out.
+/// Fails only if an allocation fails.
 pub fn put_inherited(
     alloc: Global,
     manifest: &mut Table,

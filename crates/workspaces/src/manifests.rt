@@ -14,7 +14,7 @@ pub const MANIFEST: &str = "Cargo.toml";
 /// Returns the path to which a path leads from a folder. An absolute path stays as it is. The folder `""` is the
 /// current one.
 ///
-/// Fails only where memory runs out.
+/// Fails only if an allocation fails.
 pub fn inside(alloc: Global, folder: &str, path: &str) -> Result<String, AllocError> {
     if folder.is_empty() || path.starts_with('/') {
         return String::from_str(alloc, path);
@@ -97,7 +97,7 @@ fn joined_above(alloc: Global, count: usize, components: &[&str]) -> Result<Stri
 /// Returns a path from a folder, whose absolute path this is, without the folders that it leaves by `..` and enters
 /// again at once.
 ///
-/// Fails only where memory runs out.
+/// Fails only if an allocation fails.
 pub fn nearer(alloc: Global, folder: &str, path: &str) -> Result<String, AllocError> {
     let up = steps_up(path);
     let names: Vec<&str> = folder.split('/').collect(alloc)?;
@@ -122,7 +122,7 @@ pub fn folder_of(file: &str) -> &str {
     }
 }
 
-/// Returns what a call on files returned, or `None` if it failed. Fails only where memory runs out.
+/// Returns what a call on files returned, or `None` if it failed. Fails only if an allocation fails.
 pub fn unless_refused<T>(given: io::Result<T>) -> Result<Option<T>, AllocError> {
     match given {
         Ok(given) => Ok(Some(given)),

@@ -25,7 +25,7 @@ fn holds_without(first: bool, second: bool) -> bool
 }
 
 impl Rules {
-    /// Returns whether the folder is excluded. Fails only where memory runs out.
+    /// Returns whether the folder is excluded. Fails only if an allocation fails.
     pub fn exclude(&self, alloc: Global, path: &[Vec<char>]) -> Result<bool, AllocError>
         ensures { IfOk result (λ b. IsTrue b ↔ IsExcluded self.now path.now) }
     {
@@ -37,7 +37,7 @@ impl Rules {
         Ok(holds_without(is_below, is_named))
     }
 
-    /// Returns whether the folder is a member by the globs. Fails only where memory runs out.
+    /// Returns whether the folder is a member by the globs. Fails only if an allocation fails.
     pub fn have(&self, alloc: Global, path: &[Vec<char>]) -> Result<bool, AllocError>
         ensures { IfOk result (λ b. IsTrue b ↔ IsMember self.now path.now) }
     {

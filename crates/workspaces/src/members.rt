@@ -393,7 +393,7 @@ fn members_by_globs<R: Files + AllocGlobal + Clone + Drop>(
 /// root's own, those that its globs take, and those in it to which path dependencies lead. Globs that are none are
 /// added to what can't be used, and so are all members that are missing, as one error.
 ///
-/// Fails only where memory runs out.
+/// Fails only if an allocation fails.
 pub fn members_of<R: Files + AllocGlobal + Clone + Drop>(
     rt: &R,
     documents: &mut Documents,

@@ -203,7 +203,7 @@ impl Pattern {
         Ok(Pattern { components })
     }
 
-    /// Returns whether the pattern matches the path. Fails only where memory runs out.
+    /// Returns whether the pattern matches the path. Fails only if an allocation fails.
     pub fn takes(&self, alloc: Global, path: &[Vec<char>]) -> Result<bool, AllocError>
         ensures { IfOk result (λ b. IsTrue b ↔ IsTakenBy self.now path.now) }
     {
@@ -211,7 +211,7 @@ impl Pattern {
     }
 }
 
-/// Returns whether one of the patterns matches the path. Fails only where memory runs out.
+/// Returns whether one of the patterns matches the path. Fails only if an allocation fails.
 pub fn some_takes(
     alloc: Global,
     patterns: &[Pattern],

@@ -92,8 +92,8 @@ fn add_item<T, P: Piece<T>>(
     Ok(())
 }
 
-/// Returns whether the items can be split into one stretch for each piece that this piece matches. Fails only where
-/// memory runs out.
+/// Returns whether the items can be split into one stretch for each piece that this piece matches. Fails only if an
+/// allocation fails.
 pub fn are_taken<T, P: Piece<T>>(
     alloc: Global,
     pieces: &[P],

@@ -52,7 +52,7 @@ pub fn note_hashed(
     Ok(())
 }
 
-/// Returns the canonical text of a key, which spells the same condition as the key.
+/// Returns the canonical text of a key, which is parsed as the same condition as the key.
 pub fn canonical(alloc: Global, key: &str) -> Result<String, ReadError>
     ensures canonical { IfOk result (λ text. (p : Condition) × IsConditionText key.now p
         × (string_bytes text ≡ print_condition p) × IsConditionText (string_bytes text) p) }

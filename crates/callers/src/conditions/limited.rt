@@ -1,4 +1,4 @@
-//! Parses a key only if it is not nested too deep.
+//! Parses a key only if it is not nested too deeply.
 
 ghost use Rattle.std.specs.Prelude.{IfOk, IfSome, IfNone};
 ghost use Rattle.cargo_platform.specs.Trees.{condition_of};

@@ -19,7 +19,7 @@ pub enum ManifestError {
         /// The error of the key.
         error: ParseError,
     },
-    /// Memory was refused.
+    /// An allocation failed.
     Memory(AllocError),
 }
 

@@ -40,7 +40,7 @@ pub record AreNumbers (packages : List Package) (numbers : Numbers) : Type 0 whe
   pub many : length numbers.firsts.items ≡ length packages
   pub firsts : (p : ℕ) → p < length packages → slice_index numbers.firsts.items p ≡ first_of packages p
 
--- a step with numbers in the place of claims
+-- a step with numbers in place of claims
 pub record IsNumbered (packages : List Package) (host : KnownTarget) (step : Step) (rule : Rule) : Type 0 where
   pub first : rule.first ≡ number packages step.first
   pub second : rule.second ≡ number packages step.second

@@ -25,7 +25,7 @@ pub struct Linked<'a> {
 }
 
 /// Returns the graph of a document. Fails with its first error, of the ids of packages, of nodes and of members, and
-/// then of the nodes' dependencies, and if memory is refused.
+/// then of the nodes' dependencies, and if an allocation fails.
 pub fn link<'a>(alloc: Global, metadata: &Metadata<'a>) -> Result<Linked<'a>, Refusal>
     ensures { MatchResult result (λ linked. IsLinked metadata.now linked) (λ refusal. IsUnlinked metadata.now refusal) }
 {

@@ -29,8 +29,8 @@ impl<'a> Places<'a> {
         self.first.get(&id).copied()
     }
 
-    /// Adds an id with its index. If the id was added before, returns its earlier index, which stays. Fails if memory
-    /// is refused.
+    /// Adds an id with its index. If the id was added before, returns its earlier index, which stays. Fails if an
+    /// allocation fails.
     pub fn add(&mut self, id: &'a str, place: usize) -> Result<Option<usize>, AllocError>
         ensures earlier { IfOk result (λ earlier. earlier ≡ place_at self.old id.now) }
         ensures added { OnOk result ((q : List ℕ) → place_at self.new q ≡ place_with self.old id.now place q) }

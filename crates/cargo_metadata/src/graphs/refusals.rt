@@ -34,7 +34,7 @@ pub enum Refusal {
 }
 
 impl Refusal {
-    /// Returns whether memory was refused, also for a condition.
+    /// Returns whether an allocation failed, also for a condition.
     pub fn is_memory(&self) -> bool
         ensures { result ≡ is_memory self.now }
     {

@@ -1,4 +1,4 @@
--- How often a holder is asked for the truth of some expressions.
+-- The number of queries that decide some expressions.
 use Rattle.std.proofs.Common.{◌≡◌, refl, true, false, [], ◌∷◌, codes}
 use Rattle.cargo_platform.specs.Trees.{Tree, Alone, Not, All, Any, Value, True, False, none, trees_of, Target}
 use Rattle.cargo_platform.specs.Facts.{FactSet, truth}
@@ -8,30 +8,30 @@ use Rattle.cargo_platform.proofs.Rows.Trees.{name}
 abbrev foo : Tree
 foo = Value (Alone (name (codes "foo")))
 
--- once for a name, negated or not, and for a literal never
+-- one for a name, negated or not, and none for a literal
 one_name : (facts : FactSet) → (asks facts foo ≡ 1) × (asks facts (Not (Not foo)) ≡ 1) × (asks facts True ≡ 0)
 one_name facts = (refl, refl, refl)
 
 empty_groups : (facts : FactSet) → (asks facts (All none) ≡ 0) × (asks facts (Any none) ≡ 0)
 empty_groups facts = (refl, refl)
 
--- the first false member settles an `all`, and the first true one an `any`
+-- the first false member decides an `all`, and the first true one an `any`
 settled : (facts : FactSet)
     → (asks facts (All (trees_of (True ∷ False ∷ foo ∷ []))) ≡ 0)
     × (asks facts (Any (trees_of (False ∷ Not False ∷ foo ∷ []))) ≡ 0)
 settled facts = (refl, refl)
 
--- a name that is false settles an `all` and no `any`
+-- a name that is false decides an `all` but no `any`
 false_name : (facts : FactSet) → truth facts foo ≡ false
     → (asks facts (All (trees_of (foo ∷ foo ∷ []))) ≡ 1) × (asks facts (Any (trees_of (foo ∷ foo ∷ []))) ≡ 2)
 false_name facts p = (rw p refl, rw p refl)
 
--- and one that is true an `any` and no `all`
+-- and one that is true an `any` but no `all`
 true_name : (facts : FactSet) → truth facts foo ≡ true
     → (asks facts (All (trees_of (foo ∷ foo ∷ []))) ≡ 2) × (asks facts (Any (trees_of (foo ∷ foo ∷ []))) ≡ 1)
 true_name facts p = (rw p refl, rw p refl)
 
--- what a group settled inside another one says, the other goes on after it
+-- after a group inside it that is decided, a group goes on
 inner_group : (facts : FactSet) → truth facts foo ≡ false
     → asks facts (Any (trees_of (All (trees_of (foo ∷ foo ∷ [])) ∷ Not foo ∷ foo ∷ []))) ≡ 2
 inner_group facts p = rw p refl

@@ -1,4 +1,4 @@
--- Which texts are target names and conditions, which are not, and what is said of those that are refused.
+-- Which texts are target names and conditions, which are not, and the messages about those that are refused.
 use Rattle.std.proofs.Common.{◌≡◌, refl, sym, ap, ◌∙◌, ℕ, true, false, true≢false, List, [], ◌∷◌, codes, map}
 use Rattle.std.proofs.Common.{inl, inr, arith, length, length-append, get_or}
 use Rattle.std.specs.Prelude.{IsTrue, IsFalse, ◌==◌}
@@ -31,7 +31,7 @@ characters : map is_target_char
 unfolding is_alphabetic general_category in_ranges value_in alphabetic_ranges general_category_rows
 characters = refl
 
--- `!`, a space, `(`, `/`, `€` and an accent that stands alone are not
+-- `!`, a space, `(`, `/`, `€` and an accent that is alone are not
 other_characters : IsFalse (is_target_char 0x21) × IsFalse (is_target_char 0x20) × IsFalse (is_target_char 0x28)
     × IsFalse (is_target_char 0x2F) × IsFalse (is_target_char 0x20AC) × IsFalse (is_target_char 0x300)
 unfolding is_alphabetic general_category in_ranges value_in alphabetic_ranges general_category_rows
@@ -106,7 +106,7 @@ no_mark_in_name p = refused_is_no_name (codes "a!") 0x21 mark_behind p
 nothing_refused : (c : ℕ) → IsFirstRefused (codes "a") c → ⊥
 nothing_refused c p = refused_is_no_name (codes "a") c p a_target
 
--- ---- what stands between `cfg(` and `)`
+-- ---- what is between `cfg(` and `)`
 
 cfg_of_a : IsCfgOf (codes "cfg(a)") (codes "a")
 cfg_of_a = refl

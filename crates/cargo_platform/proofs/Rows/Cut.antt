@@ -160,7 +160,7 @@ space_is_no_tail t = true≢false (tail_no_space (codes " a") t)
 second_comes : Comes (codes "a b") 1 (Token (word (codes "b") 2 3)) 3
 second_comes = (spaces _ _ _ refl, written_at _ (word (codes "b") 2 3) refl, (refl, refl), refl)
 
--- no token comes where a part of one stands after it
+-- no token comes where a part of one is after it
 no_part_comes : (to : ℕ) → Comes (codes "ab") 0 (Token (word (codes "a") 0 1)) to → ⊥
 no_part_comes to p = true≢false p.2.0
 

@@ -65,7 +65,7 @@ foo_over_nothing = by_pairs [] foo false refl
 foo_over_bar : truth (fact_set (bar ∷ [])) (Value foo) ≡ false
 foo_over_bar = by_pairs (bar ∷ []) foo false refl
 
--- a name says nothing of a pair with that key, nor a pair of the name, nor one value of another
+-- a name is independent of a pair with that key, a pair of the name, and one value of another
 pair_over_name : truth (fact_set (Alone (name (codes "k")) ∷ [])) (Value k_1) ≡ false
 pair_over_name = by_pairs (Alone (name (codes "k")) ∷ []) k_1 false refl
 

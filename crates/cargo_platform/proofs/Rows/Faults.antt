@@ -157,7 +157,7 @@ group_just_open =
 value_missing : IsRefused Expressions (codes "a = ") (IncompleteExpr (codes "a string"))
 value_missing = row _ (word (codes "a") 0 1 ∷ at Equals 2 3 ∷ []) [] 4 _ Nothing _ refl (inl refl) refl refl refl refl
 
--- one pair, and no comma, stands in `not(..)`
+-- one pair, and no comma, is in `not(..)`
 comma_behind_pair : IsRefused Expressions (codes "not(a = \"1\",") (UnexpectedToken (codes "`)`") (codes "`,`"))
 comma_behind_pair =
     row _ (word (codes "not") 0 3 ∷ at LeftParen 3 4 ∷ word (codes "a") 4 5 ∷ at Equals 6 7 ∷ at

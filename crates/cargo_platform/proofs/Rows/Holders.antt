@@ -1,4 +1,4 @@
--- What some sets have that holders of one's own mean.
+-- What some sets have that user-defined holders mean.
 use Rattle.std.proofs.Common.{◌≡◌, ◌∙◌, true, false, ◌||◌, codes}
 use Rattle.std.specs.FinSet.{contains, union}
 use Rattle.cargo_platform.specs.Trees.{CfgValue, Alone, KeyPair}

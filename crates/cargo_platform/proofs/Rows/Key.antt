@@ -1,4 +1,4 @@
--- How some names, pairs, expressions and conditions compare, and what a hasher is fed of them.
+-- How some names, pairs, expressions and conditions compare, and what they feed a hasher.
 use Rattle.std.proofs.Common.{◌≡◌, refl, ap, ℕ, true≢false, List, [], ◌∷◌, codes, get_or}
 use Rattle.std.specs.Prelude.{bytes_eq}
 use Rattle.std.specs.declared.cmp.Ordering.TheVariants.{Less, Equal, Greater}

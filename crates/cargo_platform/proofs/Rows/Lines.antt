@@ -15,7 +15,7 @@ use Rattle.cargo_platform.proofs.Rows.ValueFaults.{empty}
 no_line : (lines_of [] ≡ []) × (lines_of (codes "\n") ≡ [] ∷ [])
 no_line = (refl, refl)
 
--- the last line stands with its end or without
+-- the last line is the same with its end and without
 last_end : (lines_of (codes "a\nb\n") ≡ codes "a" ∷ codes "b" ∷ [])
     × (lines_of (codes "a\nb") ≡ codes "a" ∷ codes "b" ∷ [])
 last_end = (refl, refl)
@@ -29,7 +29,7 @@ empty_lines = (refl, refl)
 carriage_return : lines_of (0x61 ∷ 0x0D ∷ 0x0A ∷ []) ≡ (0x61 ∷ 0x0D ∷ []) ∷ []
 carriage_return = refl
 
--- lines are counted from 1, and after the last one the empty text stands
+-- lines are counted from 1, and after the last one there is the empty text
 numbered : (line_at (lines_of (codes "a\nb")) 1 ≡ codes "a") × (line_at (lines_of (codes "a\nb")) 2 ≡ codes "b")
     × (line_at (lines_of (codes "a\nb")) 3 ≡ [])
 numbered = (refl, refl, refl)

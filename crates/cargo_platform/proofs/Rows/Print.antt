@@ -1,4 +1,4 @@
--- The exact texts that are printed of some names, expressions, conditions and faults.
+-- The exact printed texts of some names, expressions, conditions and faults.
 use Rattle.std.proofs.Common.{◌≡◌, refl, ap, ℕ, true≢false, List, [], ◌∷◌, ◌++◌, codes, arith, length}
 use Rattle.std.specs.Prelude.{bytes_eq}
 use Rattle.std.specs.Char.{encode_utf8}

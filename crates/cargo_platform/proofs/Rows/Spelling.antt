@@ -172,6 +172,6 @@ text_of_name = (_, lone_a, refl)
 text_of_group : IsTreeText (codes "all(a, )") (All (tree a none))
 text_of_group = (_, comma_behind, all_a_spelled)
 
--- a text whose tail is not empty spells nothing, whatever stands before it
+-- a text whose tail is not empty spells nothing, whatever is before it
 text_with_tail : (c : CfgValue) → IsValueText (codes "ar#") c → ⊥
 text_with_tail c p = absurd (omega (arith, (one_cut_from (codes "ar#") _ _ 0 3 2 p.1 late_mark).1))

@@ -79,7 +79,7 @@ no_digit_first p = true≢false (sym p.0)
 no_dash_inside : IsIdentifierName (codes "a-b") → ⊥
 no_dash_inside p = true≢false (sym p.1)
 
--- a string may hold what stands nowhere else: a line end, and no character at all
+-- a string may hold what is nowhere else: a line end, and no character at all
 string_is : IsWellWritten (String (0x0A ∷ [])) × IsWellWritten (String [])
 unfolding encode_utf8
 string_is = (((0x0A ∷ [], (refl, refl)), refl), (([], (refl, refl)), refl))
@@ -98,7 +98,7 @@ no_text (c ∷ cs) h =
     let small : c < 128 = short_is_ascii c (omega (arith, len, length-encode c)) in
     absurd (omega (arith, small, byte_from_char (0xFF ∷ []) (encode_utf8_all cs) c (sym h) small))
 
--- what is no text stands in no string
+-- bytes that are no text are in no string
 no_foreign_bytes : IsWellWritten (String (0xFF ∷ [])) → ⊥
 no_foreign_bytes p = no_text p.0.0 p.0.1.1
 

@@ -20,7 +20,7 @@ values_in_order : values
     (codes "c") ∷ alone (codes "a") ∷ alone (codes "b") ∷ []
 values_in_order = refl
 
--- what stands twice is there twice
+-- a value that occurs twice is listed twice
 values_of_members : (members_values (trees_of (a ∷ a ∷ [])) ≡ alone (codes "a") ∷ alone (codes "a") ∷ [])
     × (members_values none ≡ [])
 values_of_members = (refl, refl)

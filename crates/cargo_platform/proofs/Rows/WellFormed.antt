@@ -13,7 +13,7 @@ use Rattle.cargo_platform.proofs.Rows.Conditions.{target_name, space_refused, ma
 name_is_well_formed : IsWellFormedValue (Alone (name (codes "foo")))
 name_is_well_formed = (refl, refl)
 
--- also a name that may not stand in an expression
+-- also a name that may not be in an expression
 word_is_well_formed : IsWellFormedValue (Alone (name (codes "all"))) × IsWellFormedValue (Alone (marked (codes "true")))
 word_is_well_formed = ((refl, refl), (refl, refl))
 

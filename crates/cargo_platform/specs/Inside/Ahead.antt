@@ -1,10 +1,10 @@
--- For proofs: what is ahead of a reader, and how it goes on from one token to the next.
+-- For proofs: what is ahead of a reader, and how it moves from one token to the next.
 use Rattle.std.specs.Prelude.{◌≡◌, ℕ, ◌-◌, List, [], ◌∷◌, length}
 use Rattle.cargo_platform.specs.Tokens.{Placed}
 use Rattle.cargo_platform.specs.Cut.{AreSpaces, Item, Token, Comes}
 use Rattle.cargo_platform.specs.Reading.{IsLookedTo}
 
--- a text, and the place that was reached in it
+-- a text, and the position that was reached in it
 pub record Ahead : Type 0 where
   pub text : List ℕ
   pub place : ℕ
@@ -14,7 +14,7 @@ pub record Standing : Type 0 where
   pub ahead : Ahead
   pub looks : ℕ
 
--- no fewer looks were made than characters stand before the place
+-- there were at least as many looks as there are characters before the position
 abbrev pub IsSeenTo : Standing → ℕ → Type 0
 IsSeenTo s to = IsLookedTo s.ahead.text to s.looks
 

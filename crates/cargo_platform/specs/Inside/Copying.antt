@@ -1,4 +1,4 @@
--- What a copy is a part of: the groups that are being copied around it. And what is next, by cases.
+-- The groups that are being copied around a copy, the whole that they make, and the next thing to handle, by cases.
 use Rattle.std.specs.Prelude.{ℕ, ◌+◌, ◌*◌, List, [], ◌∷◌, ◌++◌, map, reverse, sum}
 use Rattle.cargo_platform.specs.declared.cfg.CfgExpr.{CfgExpr}
 use Rattle.cargo_platform.specs.declared.clone.Next.{Next}
@@ -24,7 +24,7 @@ within (g ∷ gs) e = within gs (around g e)
 abbrev pub whole : CopiedGroups → Tree → Tree
 whole c e = within (reverse c.groups.items) e
 
--- what falls while the members of a group are copied
+-- what decreases while the members of a group are copied
 abbrev pub left_in : CopiedGroup → ℕ
 left_in group.Not = 1
 left_in (group.List word copies left) = 2 * node_counts left.now + 1
@@ -32,12 +32,12 @@ left_in (group.List word copies left) = 2 * node_counts left.now + 1
 abbrev pub work : CopiedGroups → ℕ
 work c = sum (map left_in c.groups.items)
 
--- P of an expression that is to be copied, and Q of a copy
+-- P of an expression to copy, or Q of a copy
 abbrev pub MatchNext : Next → (CfgExpr → Type 0) → (CfgExpr → Type 0) → Type 0
 MatchNext (next.Expression e) P Q = P e.now
 MatchNext (next.Copy copy) P Q = Q copy
 
--- P of the expression, if one is to be copied
+-- P of the expression, if an expression is to be copied
 abbrev pub ForExpression : Next → (CfgExpr → Type 0) → Type 0
 ForExpression (next.Expression e) P = P e.now
 ForExpression (next.Copy copy) P = Unit {0}

@@ -31,13 +31,13 @@ use Rattle.cargo_platform.specs.Walk.{steps}
 use Rattle.cargo_platform.specs.Walk.{Word, Several, is_whole, state_of}
 use Rattle.cargo_platform.specs.Inside.Refusals.{FaultAt, fault_at_of, refused_at}
 
--- after tokens that are accepted this text is the surplus, and it lies here
+-- after tokens that are accepted this text is surplus, and it has this span
 abbrev pub IsSurplus : List ℕ → Item → List ℕ → Range ℕ → Type 0
 IsSurplus text next rest span =
     (g : Grammar) (last : Option Lexeme)
     → fault_at_of g text true last next ≡ Some (record { fault = UnterminatedExpression rest; span = span })
 
--- the text from the next item on, which is the surplus after what is accepted, or nothing at the end
+-- the text from the next item on, which is the surplus after accepted tokens, or nothing at the end
 abbrev pub SeesRest : Ahead → Option Rest → Type 0
 SeesRest l None = NextIs l Nothing
 SeesRest l (Some rest) = (next : Item) × NextIs l next × IsSurplus l.text next rest.text.text.now rest.span
@@ -48,7 +48,7 @@ lexeme_of punctuation.RightParen = RightParen
 lexeme_of punctuation.Comma = Comma
 lexeme_of punctuation.Equals = Equals
 
--- the next token, which this is, is taken
+-- the next token is taken, and it is this one
 abbrev pub TakesToken : Ahead → Ahead → Lexeme → Type 0
 TakesToken old new t = (first : Placed) × (first.token ≡ t) × GoesPast old new first
 
@@ -58,7 +58,7 @@ Takes old new None = (new ≡ old) × NextIs old Nothing
 Takes old new (Some (Ok t)) = GoesPast old new (placed t)
 Takes old new (Some (Err kind)) = (new ≡ old) × NextIs old (cut.Lexical kind old.place)
 
--- it was looked at: a token and a lexical fault up to the end of its span, and else the text up to its end
+-- the text was looked at up to the end of the span of a token or a lexical fault, or else to its end
 abbrev pub SeesTaken : Standing → Option (Result Spanned TokenFaultKind) → Type 0
 SeesTaken new None = IsSeenTo new (length new.ahead.text)
 SeesTaken new (Some (Ok t)) = IsSeenTo new t.end
@@ -73,7 +73,7 @@ IsIdentifier t = (raw : Bool) × (name : List ℕ) × (t ≡ Ident raw name)
 abbrev pub IsString : Lexeme → Type 0
 IsString t = (value : List ℕ) × (t ≡ String value)
 
--- no token comes next that is so
+-- the next item is not a token with this property
 abbrev pub Lacks : (Lexeme → Type 0) → Ahead → Type 0
 Lacks P l = (first : Placed) → NextIs l (cut.Token first) → P first.token → ⊥
 
@@ -109,7 +109,7 @@ abbrev pub is_all : Listing → Bool
 is_all listing.All = true
 is_all listing.Any = false
 
--- what a group of the program stands for
+-- the opening that a group of the program means
 abbrev pub opening : Group → Opening
 opening groups.Not = Negated
 opening (groups.List word members) = Listed (is_all word) (map tree_of members.items)
@@ -141,18 +141,18 @@ at_name raw name gs = let n : Name = record { raw = raw; name = name } in at_rol
 abbrev pub at_lone_name : Bool → List ℕ → List Opening → Position
 at_lone_name raw name gs = WithTree (Value (Alone (record { raw = raw; name = name }))) gs
 
--- after an expression, or where one is wanted
+-- after an expression, or before one that has to follow
 abbrev pub at_done : List Opening → Option CfgExpr → Position
 at_done gs None = Wanting gs
 at_done gs (Some e) = WithTree (tree_of e) gs
 
--- From one place to another some tokens were read, which lead from one position to another.
+-- Some tokens were read between the two states, and they lead from one position to another.
 pub record Reads (g : Grammar) (old new : Ahead) (p q : Position) : Type 0 where
   pub us : List Placed
   pub path : Path old us new
   pub leads : steps g (Some p) (lexemes us) ≡ Some q
 
--- what comes next does not go on with the expression
+-- what comes next does not continue the expression
 abbrev pub IsClear : Tree → Ahead → Type 0
 IsClear (Value (Alone n)) l = LacksPunctuation l punctuation.Equals
 IsClear e l = Unit {0}
@@ -168,11 +168,11 @@ IsStop g p (cut.Token t) = step g p t.token ≡ None
 IsStop g p (cut.Lexical kind at) = Unit {0}
 IsStop g p Nothing = Unit {0}
 
--- what is said of the fault that a refusal stands for, where it is no allocation failure
+-- a statement about the fault of a refusal that is not an allocation failure
 abbrev pub IfFault : Refusal → (FaultAt → Type 0) → Type 0
 IfFault r P = IfSome (refused_at r) P
 
--- the text was looked at as far as its fault asks for
+-- the text was looked at as far as its fault needs
 abbrev pub HasLooked : Standing → Refusal → Type 0
 HasLooked s r = IfFault r (λ fault. IsSeenTo s (looked_to fault.fault fault.span))
 
@@ -193,8 +193,7 @@ pub record StopsAt (g : Grammar) (l : Ahead) (p : Position) (fault : FaultAt) : 
 abbrev pub Stops : Grammar → Ahead → Position → Refusal → Type 0
 Stops g l p r = IfFault r (StopsAt g l p)
 
--- the next item is refused, after tokens that are not accepted and after which these are the words for what is
--- expected
+-- the next item is refused, after tokens that are not accepted, and these are the words for what is expected after them
 abbrev pub RefusesNext : Ahead → List ℕ → List ℕ → Refusal → Type 0
 RefusesNext l expected at_end r =
     (next : Item) × NextIs l next

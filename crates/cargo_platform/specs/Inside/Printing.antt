@@ -1,4 +1,4 @@
--- How an expression is written: first all but the parentheses that end it, and then these.
+-- How an expression is written: first everything but the parentheses that end it, and then these.
 use Rattle.std.specs.Prelude.{◌≡◌, ℕ, zero, suc, Bool, true, false, List, [], ◌∷◌, ◌++◌, codes, replicate}
 use Rattle.std.specs.declared.fmt.Formatter.{Formatter}
 use Rattle.std.specs.Fmt.{HasWritten}
@@ -15,7 +15,7 @@ is_group (Value c) = false
 is_group True = false
 is_group False = false
 
--- what stands before the members of a group, or the whole of an expression that is none
+-- what is before the members of a group, or the whole of an expression that is no group
 abbrev pub word : Tree → List ℕ
 word (Not e) = codes "not("
 word (All es) = codes "all("
@@ -40,13 +40,13 @@ abbrev mutual
   begun_members (tree e none) = begun e
   begun_members (tree e (tree d es)) = print e ++ codes ", " ++ begun_members (tree d es)
 
--- what stands after a member, before the others
+-- what is between a member and the others after it
 abbrev pub between : List CfgExpr → List ℕ
 between [] = []
 between (e ∷ es) = codes ", "
 
 abbrev mutual
-  -- how many groups end where the expression ends: itself, if it is one, and those that end it
+  -- the number of groups that end where the expression ends, including itself if it is a group
   pub ending : Tree → ℕ
   ending (Not e) = suc (ending e)
   ending (All es) = suc (ending_last es)
@@ -60,11 +60,11 @@ abbrev mutual
   ending_last (tree e none) = ending e
   ending_last (tree e (tree d es)) = ending_last (tree d es)
 
--- the parentheses that end so many groups
+-- the parentheses that end this many groups
 abbrev pub closed : ℕ → List ℕ
 closed n = replicate n 41
 
--- g is f after writing all of a text but what is left of it
+-- g is f after writing a text except for what is left of it
 pub record HasWrittenBut {W : Type 0} (took : W → List ℕ → W → Type 0) (f : Formatter W) (text left : List ℕ)
     (g : Formatter W) : Type 0 where
   pub done : List ℕ

@@ -1,4 +1,4 @@
-//! Equality, order and hash of expressions by the key, at every depth.
+//! Equality, order and hash of expressions. They compare keys at every depth.
 
 ghost use Rattle.std.specs.Prelude.{◌≡◌, ◌≤◌, ◌<◌, map, fold, refl, IfOk, IfSome, MatchOption, MatchResult};
 ghost use Rattle.std.specs.Cmp.{Equal-is, eq_by_cmp_equiv, on_equiv, on_total, partial_equiv_from_equiv};
@@ -14,7 +14,7 @@ use crate::cfg::CfgExpr;
 use std::cmp::Ordering;
 use std::hash::{Hash, Hasher};
 
-/// Where the form stands among the six.
+/// Returns the position of the form among the six.
 fn rank(e: &CfgExpr) -> u8
     ensures { result ≡ rank (tree_of e.now) }
 {
@@ -28,8 +28,8 @@ fn rank(e: &CfgExpr) -> u8
     }
 }
 
-// Goes down the last members in a loop, so that what recurses are the members before them.
-/// By the forms, and in one form by their parts.
+// Follows last members in a loop, so that the recursion is over the members before them.
+/// Compares by form, and within one form by parts.
 #[cycle(compare)]
 fn compare(a: &CfgExpr, b: &CfgExpr) -> Ordering
     ensures { result ≡ tree_cmp (tree_of a.now) (tree_of b.now) }
@@ -47,7 +47,7 @@ fn compare(a: &CfgExpr, b: &CfgExpr) -> Ordering
     }
 }
 
-/// The order, or the expressions inside that it hangs on.
+/// Returns the order of two expressions, or the inner expressions that it depends on.
 #[cycle(compare)]
 #[inline(always)]
 fn compare_forms<'a>(a: &'a CfgExpr, b: &'a CfgExpr) -> Result<(&'a CfgExpr, &'a CfgExpr), Ordering>
@@ -61,15 +61,15 @@ fn compare_forms<'a>(a: &'a CfgExpr, b: &'a CfgExpr) -> Result<(&'a CfgExpr, &'a
         (CfgExpr::All(ds), CfgExpr::All(es)) | (CfgExpr::Any(ds), CfgExpr::Any(es)) => {
             compare_all_but_last(ds, es)
         }
-        // Telling that texts are equal takes less than putting them in order.
+        // Testing texts for equality is faster than ordering them.
         (CfgExpr::Value(c), CfgExpr::Value(d)) if c == d => Err(Ordering::Equal),
         (CfgExpr::Value(c), CfgExpr::Value(d)) => Err(c.cmp(d)),
         _ => Err(rank(a).cmp(&rank(b))),
     }
 }
 
-/// The order of lists of members, or the last members that it hangs on. The last member of a shorter list stands beside
-/// one that is not the last, so that lists of different lengths are compared whole.
+/// Returns the order of two lists of members, or the last members that it depends on. The last member of a shorter list
+/// is beside a member that is not the last, so lists of different lengths are compared whole.
 #[cycle(compare)]
 #[inline(always)]
 fn compare_all_but_last<'a>(
@@ -96,7 +96,7 @@ fn compare_all_but_last<'a>(
     }
 }
 
-/// By the first difference; a list that ends first comes first.
+/// Compares by the first difference. A list that ends first comes first.
 #[cycle(compare)]
 #[inline(always)]
 fn compare_members(ds: &[CfgExpr], es: &[CfgExpr]) -> Ordering
@@ -112,7 +112,7 @@ fn compare_members(ds: &[CfgExpr], es: &[CfgExpr]) -> Ordering
 }
 
 impl PartialEq for CfgExpr {
-    // Equality, a total order and the hash go by the key.
+    // Equality, order and hash compare keys: values without their raw marks. The order is total.
     ghost eq = { on tree_of (eq_by_cmp tree_cmp) };
 
     ghost laws = { partial_equiv_from_equiv (on_equiv tree_of (eq_by_cmp_equiv tree_total)) };
@@ -137,7 +137,7 @@ impl PartialOrd for CfgExpr {
 }
 
 impl Ord for CfgExpr {
-    // Equality, a total order and the hash go by the key.
+    // Equality, order and hash compare keys: values without their raw marks. The order is total.
     ghost cmp = { on tree_of tree_cmp };
 
     ghost total = { on_total tree_of tree_total };
@@ -151,7 +151,7 @@ impl Ord for CfgExpr {
     }
 }
 
-// Goes down the last members in a loop, so that what recurses are the members before them.
+// Follows last members in a loop, so that the recursion is over the members before them.
 /// Feeds the form, and then the parts.
 #[cycle(feed)]
 fn feed<H: Hasher>(e: &CfgExpr, state: &mut H)
@@ -188,7 +188,7 @@ fn feed<H: Hasher>(e: &CfgExpr, state: &mut H)
     }
 }
 
-/// How many members there are, and each but the last, which is left to feed.
+/// Feeds the number of members, and each but the last, which it returns.
 #[cycle(feed)]
 #[inline(always)]
 fn feed_all_but_last<'a, H: Hasher>(members: &'a [CfgExpr], state: &mut H) -> Option<&'a CfgExpr>
@@ -213,7 +213,7 @@ fn feed_all_but_last<'a, H: Hasher>(members: &'a [CfgExpr], state: &mut H) -> Op
 }
 
 impl Hash for CfgExpr {
-    // Equality, a total order and the hash go by the key.
+    // Equality, order and hash compare keys: values without their raw marks. The order is total.
     ghost hash_input = { λ e. tree_hash (tree_of e) };
 
     ghost respects_eq = { λ a b same. tree_alike (tree_of a) (tree_of b)

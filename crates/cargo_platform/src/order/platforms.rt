@@ -1,4 +1,4 @@
-//! Equality, order and hash of platforms by the key.
+//! Equality, order and hash of platforms. They compare keys.
 
 ghost use Rattle.std.specs.Prelude.{refl};
 ghost use Rattle.std.specs.Cmp.{Equal-is, eq_by_cmp_equiv, on_equiv, on_total, partial_equiv_from_equiv};
@@ -14,7 +14,7 @@ use std::cmp::Ordering;
 use std::hash::{Hash, Hasher};
 
 impl PartialEq for Platform {
-    // Equality, a total order and the hash go by the key.
+    // Equality, order and hash compare keys: values without their raw marks. The order is total.
     ghost eq = { on condition_of (eq_by_cmp condition_cmp) };
 
     ghost laws = { partial_equiv_from_equiv (on_equiv condition_of (eq_by_cmp_equiv condition_total)) };
@@ -44,7 +44,7 @@ impl PartialOrd for Platform {
 }
 
 impl Ord for Platform {
-    // Equality, a total order and the hash go by the key.
+    // Equality, order and hash compare keys: values without their raw marks. The order is total.
     ghost cmp = { on condition_of condition_cmp };
 
     ghost total = { on_total condition_of condition_total };
@@ -64,7 +64,7 @@ impl Ord for Platform {
 }
 
 impl Hash for Platform {
-    // Equality, a total order and the hash go by the key.
+    // Equality, order and hash compare keys: values without their raw marks. The order is total.
     ghost hash_input = { λ p. condition_hash (condition_of p) };
 
     ghost respects_eq = { λ a b same. condition_alike (condition_of a) (condition_of b)

@@ -1,5 +1,5 @@
-//! What is left of a text, for a tokenizer's caller: the one call that hands out what was not looked at.
-// It stands in a module below the source, since nobody else can take the text out of it.
+//! Returns what is left of a tokenizer's text: the one call that returns text that was not looked at.
+// This is a module below the source, since no other module can take the text out of it.
 
 ghost use Rattle.std.specs.Prelude.{length, MatchOption};
 ghost use Rattle.std.specs.Str.{IsCharBoundary};
@@ -10,8 +10,8 @@ use super::{Source, spaces_end};
 use crate::tokens::Tokenizer;
 
 impl<'a> Tokenizer<'a> {
-    /// The text from the first character that is no space, from the place reached; `None` if only spaces are left.
-    /// After a fault it begins at the fault's place.
+    /// Returns the text from the first character that is no space, from the current position on, or `None` if only
+    /// spaces are left. After a fault it begins at the fault's position.
     pub fn rest(&self) -> Option<&'a str>
         // The text from the next character that is no space.
         ensures { MatchOption result
@@ -22,7 +22,7 @@ impl<'a> Tokenizer<'a> {
     }
 }
 
-/// The text from the first character on that is no space, from a byte place on.
+/// Returns the text from the first character that is no space, from a byte position on.
 fn rest_from<'a>(source: &Source<'a>, at: usize) -> Option<&'a str>
     requires { IsCharBoundary source.now.text.now at }
     ensures { MatchOption result

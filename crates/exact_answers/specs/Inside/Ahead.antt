@@ -85,7 +85,7 @@ IsOpenAt [] n = ⊥
 IsOpenAt (w ∷ ws) zero = w.tells ≡ None
 IsOpenAt (w ∷ ws) (suc n) = IsOpenAt ws n
 
--- what is seen of a goal is its truth, or it hangs on an open pair
+-- what is seen of a goal is its truth, or it depends on an open pair
 abbrev pub IsSeen : List Words → Seen → Bool → Type 0
 IsSeen table (seen.Known c) b = b ≡ c
 IsSeen table (seen.Open n) b = IsOpenAt table n

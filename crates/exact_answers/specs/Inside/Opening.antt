@@ -8,7 +8,7 @@ use Rattle.exact_answers.specs.Inside.Searches.{as_wanted}
 use Rattle.exact_answers.specs.declared.opening.Verdict.{Verdict}
 use Rattle.exact_answers.specs.declared.opening.Verdict.TheVariants as verdict
 
--- the truth of a tree, or an open pair that stands in it where it is not decided
+-- the truth of a tree, or an open pair that is in it where it is not decided
 abbrev pub SaysVerdict : Verdict → (Pair → Option Bool) → Tree → Type 0
 SaysVerdict (verdict.Decided b) told e = kleene told e ≡ Some b
 SaysVerdict (verdict.Open c) told e =

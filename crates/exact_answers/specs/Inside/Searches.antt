@@ -42,7 +42,7 @@ abbrev pub goal_trees : List Goal → Trees
 goal_trees [] = none
 goal_trees (g ∷ gs) = tree (tree_of g.e.now) (goal_trees gs)
 
--- each pair of the splits stands in one of the trees
+-- each pair of the splits is in one of the trees
 abbrev pub AreAsked : Trees → List Turn → Type 0
 AreAsked es [] = Unit {0}
 AreAsked es (d ∷ ds) = (some_asks es d.pair ≡ true) × AreAsked es ds
@@ -90,7 +90,7 @@ open_on k ds (p ∷ ps) = one_if (is_none (told_on k ds p)) + open_on k ds ps
 abbrev pub NeedsMoreOn : Base → Trees → ℕ → Type 0
 NeedsMoreOn k es budget = (ps : List Pair) → HasAll es ps → budget + 1 < 2 ^ open_on k [] ps
 
--- a fact without a raw mark that is listed or stands in one of the trees
+-- a fact without a raw mark that is listed or is in one of the trees
 abbrev pub MayBeFound : Base → Trees → CfgValue → Type 0
 MayBeFound k es c =
     IsUnmarked c × IsTrue (contains (from_list {R = pair_cmp} k.listed) (pair_of c) || some_asks es (pair_of c))
@@ -101,7 +101,7 @@ Searched k gs budget r =
     SaysFoundAmong (λ s. IsOver k s) (λ c. MayBeFound k (goal_trees gs) c) r (λ s. goals_met s gs ≡ true)
     (λ s. goals_met s gs ≡ false) (NeedsMoreOn k (goal_trees gs) budget)
 
--- how the path stands at the end of a search: the facts are those on it; nothing is left on it, where there is no set;
+-- how the path is at the end of a search: the facts are those on it; nothing is left on it, where there is no set;
 -- or it has counted as many splits as the budget has
 abbrev pub Ends : Found → Path → ℕ → Type 0
 Ends (found.Facts facts) p budget = map pair_of (map value_of facts.items) ≡ facts_on (base_of p.known.now) (turns p)

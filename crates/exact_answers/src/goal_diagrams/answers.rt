@@ -69,8 +69,8 @@ fn way_from(alloc: Global, table: &Table, place: usize) -> Result<Outcome, Alloc
     Ok(Outcome::Way(way))
 }
 
-/// Returns whether each goal can be met, by a diagram whose nodes ask for these pairs, in this order. A set of facts is
-/// possible where `known` allows it, and no key in `single` has two values in it that are open by `known`.
+/// Returns whether each goal can be met, by a diagram whose nodes test these pairs, in this order. A set of facts is
+/// possible if `known` allows it, and if no key in `single` has two values in it that are open by `known`.
 pub fn find_way<K: Knowledge>(
     alloc: Global,
     goals: &[Goal<'_>],
@@ -79,8 +79,8 @@ pub fn find_way<K: Knowledge>(
     single: &[&str],
     most_nodes: usize,
 ) -> Result<Outcome, AllocError>
-    // Of choices, each goal is met over each possible set of facts that agrees with them. Of `Nothing`, over no
-    // possible set is each goal met.
+    // With choices, each goal is met over each possible set of facts that agrees with them. With `Nothing`, no possible
+    // set meets all goals.
     ensures { IfOk result (λ r. (s : FactSet) → K.allows known.now s
         → HasOneOpenValue (K.told known.now) (names_of single.now) s
         → SaysOutcome r s (pairs_of pairs.now) (goals_met s goals.now)) }

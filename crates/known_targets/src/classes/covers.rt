@@ -9,7 +9,7 @@ use crate::{COUNT, KnownFact, TargetSet};
 use cargo_platform::{CfgExpr, Platform};
 use std::alloc::{AllocError, Global};
 
-/// A fact by its place, or `not(..)` of it.
+/// A fact by its index, or `not(..)` of it.
 #[derive(Clone, Copy, Drop)]
 struct Literal {
     place: usize,
@@ -44,14 +44,14 @@ impl Literal {
 ///
 /// It is an `any(..)` of parts, each an `all(..)` of facts and `not(..)` of facts. A part is made for targets that no
 /// part has yet. It takes the fact, or its `not(..)`, that keeps most of these and leaves out most targets outside the
-/// set, the first of equals, until none outside is left. Then what is not needed is dropped. Fails only where memory
-/// runs out.
+/// set, the first of equals, until none outside is left. Then what is not needed is dropped. Fails only if an
+/// allocation fails.
 pub fn covering(
     alloc: Global,
     facts: &[KnownFact],
     set: TargetSet,
 ) -> Result<Option<Platform>, AllocError>
-    // A condition that is answered holds at each target of the set, and at no other known one.
+    // A condition that is returned is true on each target of the set, and on no other known target.
     ensures { IfOk result (λ p. IfSome p (λ p. HoldsExactly set (condition_of p))) }
 {
     let mut parts = Vec::new(alloc);

@@ -8,13 +8,13 @@ use crate::{TargetSet, matching};
 use cargo_platform::Platform;
 use std::alloc::{AllocError, Global};
 
-/// Returns the condition, where it is true on exactly the targets of the set. Fails only where memory runs out.
+/// Returns the condition if it is true on exactly the targets of the set. Fails only if an allocation fails.
 pub fn exactly(
     alloc: Global,
     platform: Platform,
     set: TargetSet,
 ) -> Result<Option<Platform>, AllocError>
-    // A condition that is answered holds at each target of the set, and at no other known one.
+    // A condition that is returned is true on each target of the set, and on no other known target.
     ensures { IfOk result (λ p. IfSome p (λ p. HoldsExactly set (condition_of p))) }
 {
     let targets = matching(alloc, &platform)?;

@@ -1,4 +1,4 @@
-//! Targets that some sets do not tell apart.
+//! Divides targets into those that some sets do not distinguish.
 
 ghost use Rattle.std.specs.Prelude.{IfOk, OnOk};
 ghost use Rattle.known_targets.specs.Classes.{AreClasses};
@@ -8,7 +8,7 @@ use crate::TargetSet;
 use std::alloc::{AllocError, Global};
 
 /// Returns the known targets in classes: two are in one class exactly if each of the sets has both or neither. Fails
-/// only where memory runs out.
+/// only if an allocation fails.
 pub fn classes(alloc: Global, sets: &[TargetSet]) -> Result<Vec<TargetSet>, AllocError>
     // Each known target is in one class, with exactly those that each of the sets has too, or lacks too. No class is
     // empty.

@@ -32,7 +32,7 @@ pub struct Simple {
 impl Simple {
     /// Returns the facts of rustc's table under the names `unix` and `windows`, and then under the keys
     /// `target_family`, `target_os`, `target_env`, `target_vendor`, `target_arch`, `target_abi`, `target_endian` and
-    /// `target_pointer_width`. Fails only where memory runs out.
+    /// `target_pointer_width`. Fails only if an allocation fails.
     pub fn new(alloc: Global) -> Result<Simple, AllocError> {
         let known = all_facts(alloc)?;
         let mut facts = Vec::new(alloc);
@@ -55,9 +55,9 @@ impl Simple {
     }
 
     /// Returns the first condition that is true on exactly the targets of the set: one of the facts, `not(..)` of one,
-    /// or the name of the only target. Fails only where memory runs out.
+    /// or the name of the only target. Fails only if an allocation fails.
     pub fn condition(&self, alloc: Global, set: TargetSet) -> Result<Option<Platform>, AllocError>
-        // A condition that is answered holds at each target of the set, and at no other known one.
+        // A condition that is returned is true on each target of the set, and on no other known target.
         ensures { IfOk result (λ p. IfSome p (λ p. HoldsExactly set (condition_of p))) }
     {
         if let Some(found) = self.first_at(set) {

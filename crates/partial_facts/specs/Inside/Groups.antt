@@ -1,5 +1,5 @@
--- Both kinds of group, by the truth after which they go on: `all` goes on after members that are true, and `any`
--- after false ones. That truth is called the neutral one.
+-- Both kinds of group, by their neutral truth, after which they go on: `all` goes on after members that are true, and
+-- `any` after false ones.
 use Rattle.std.specs.Prelude.{Bool, true, false, Option, Some, None}
 use Rattle.cargo_platform.specs.Trees.{Tree, All, Any, Trees}
 use Rattle.cargo_platform.specs.Facts.{Pair}
@@ -17,7 +17,7 @@ abbrev pub grouped : Bool → Trees → Tree
 grouped true = All
 grouped false = Any
 
--- what is known of the members so far: the neutral truth where each of them is known, and else nothing
+-- what is known of the members so far: the neutral truth if each of them is known, or else nothing
 abbrev pub so_far : Bool → Bool → Option Bool
 so_far neutral true = Some neutral
 so_far neutral false = None

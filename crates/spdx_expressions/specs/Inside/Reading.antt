@@ -31,7 +31,7 @@ named w =
 
 -- what was read last
 pub data Mode : Type 0 where
-  -- an operand is wanted
+  -- an operand has to follow
   Wants : Mode
   -- a licence, whose exception may follow
   Licensed : (t : Term) → Mode
@@ -40,7 +40,7 @@ pub data Mode : Type 0 where
   -- an operand ended
   Behind : Mode
 
--- where a reader stands: how many brackets are open, and the parts before a licence that is not whole yet
+-- the state of a reader: the number of open brackets, and the parts before a licence that is not complete yet
 pub record State : Type 0 where
   pub mode : Mode
   pub depth : ℕ
@@ -57,7 +57,7 @@ abbrev pub by_name : Option Term → ℕ → List Piece → Option State
 by_name None n ps = None
 by_name (Some t) n ps = at (Licensed t) n ps
 
--- an operand is wanted
+-- an operand has to follow
 abbrev pub operand : ℕ → List Piece → Lexeme → Option State
 operand n ps LeftBracket = at Wants (n + 1) (ps ++ Open ∷ [])
 operand n ps RightBracket = None
@@ -83,7 +83,7 @@ licensed t n ps Slash = behind n (ps ++ Named t ∷ []) Slash
 licensed t n ps (Word w) =
     if bytes_eq w (codes "WITH") then at (Excepts t) n ps else behind n (ps ++ Named t ∷ []) (Word w)
 
--- an exception is wanted
+-- an exception has to follow
 abbrev pub excepts : Term → ℕ → List Piece → Lexeme → Option State
 excepts t n ps LeftBracket = None
 excepts t n ps RightBracket = None
@@ -96,11 +96,11 @@ by_mode (Licensed t) n ps token = licensed t n ps token
 by_mode (Excepts t) n ps token = excepts t n ps token
 by_mode Behind n ps token = behind n ps token
 
--- the next token, if it fits
+-- the next token, if it is allowed
 abbrev pub step : State → Lexeme → Option State
 step s token = by_mode s.mode s.depth s.parts token
 
--- the tokens that are left, as long as they fit
+-- the remaining tokens, as long as they are allowed
 abbrev pub run : Option State → List Lexeme → Option State
 run None ts = None
 run (Some s) [] = Some s
@@ -117,7 +117,7 @@ finished (Excepts t) n ps = None
 finished Behind zero ps = Some ps
 finished Behind (suc n) ps = None
 
--- the parts of the whole, if it may end here
+-- all parts, if the expression may end here
 abbrev pub whole : State → Option (List Piece)
 whole s = finished s.mode s.depth s.parts
 
@@ -134,24 +134,24 @@ expected_in Behind n = expected_behind n
 abbrev pub left : List ℕ → ℕ → List Placed
 left text place = tokens_from place (drop place text)
 
--- the tokens before a place lead to the state
+-- the tokens before a position lead to the state
 pub record IsReached (text : List ℕ) (after : List Placed) (s : State) : Type 0 where
   pub before : List Placed
   pub cut : tokens_from 0 text ≡ before ++ after
   pub leads : run (Some start) (lexemes before) ≡ Some s
 
--- the tokens that are left do not fit: the next one, or the end
+-- the remaining tokens are not allowed: the next one, or the end
 abbrev pub DoNotFit : State → List Placed → Type 0
 DoNotFit s [] = whole s ≡ None
 DoNotFit s (t ∷ ts) = step s t.token ≡ None
 
--- a refusal names what is found before the tokens that are left; memory says nothing
+-- a refusal names what is found before the remaining tokens; nothing is said of an allocation failure
 abbrev pub IsOf : List ℕ → List Placed → Expected → Refusal → Type 0
 IsOf text after wanted (refusal.Unexpected expected found span) =
     (expected ≡ wanted) × (found ≡ found_next after) × (span ≡ span_next text after)
 IsOf text after wanted (refusal.Memory e) = Unit {0}
 
--- the refusal is that of the first token that does not fit; memory says nothing
+-- the refusal is that of the first token that is not allowed; nothing is said of an allocation failure
 abbrev pub IsStopped : List ℕ → Refusal → Type 0
 IsStopped text (refusal.Unexpected expected found span) =
     (s : State) × (after : List Placed) × IsReached text after s × DoNotFit s after
@@ -163,14 +163,14 @@ abbrev pub IsNext : Option Spanned → List Placed → Type 0
 IsNext None ts = ts ≡ []
 IsNext (Some s) ts = (more : List Placed) × (ts ≡ placed s ∷ more)
 
--- the state is as one behind an operand, for what is left
+-- the state is like one after an operand, for the remaining tokens
 pub record IsBehind (s : State) (after : List Placed) (n : ℕ) (ps : List Piece) : Type 0 where
   pub depth : s.depth ≡ n
   pub expected : expected_in s.mode s.depth ≡ expected_behind n
   pub whole : whole s ≡ finished Behind n ps
   pub next : (t : Placed) (ts : List Placed) → after ≡ t ∷ ts → step s t.token ≡ behind n ps t.token
 
--- what the reader keeps: its text was read up to its place
+-- an invariant of the reader: its text was read up to its position
 abbrev pub IsReading : Reader → Type 0
 IsReading r =
     IsCharBoundary r.text.now r.place × (r.depth ≤ r.place)
@@ -179,13 +179,14 @@ IsReading r =
     (s ≡ record { mode = Wants; depth = r.depth; parts = pieces r.parts.items })
     (IsBehind s (left r.text.now r.place) r.depth (pieces r.parts.items))
 
--- the token is no operator: it does not fit behind an operand, but `)` does where a bracket is open
+-- the token is no operator: it is not allowed after an operand, but `)` is if a bracket is open
 pub record IsNoOperator (t : Lexeme) : Type 0 where
   pub flat : (ps : List Piece) → behind 0 ps t ≡ None
   pub nested : (t ≡ RightBracket → ⊥) → (n : ℕ) (ps : List Piece) → behind n ps t ≡ None
 
--- ---- the exception behind a licence
+-- ---- the exception after a licence
 
+-- ---- the exception after a licence
 -- `WITH` does not come next
 abbrev pub LacksWith : List Placed → Type 0
 LacksWith after = (t : Placed) (ts : List Placed) → after ≡ t ∷ ts → t.token ≡ Word (codes "WITH") → ⊥
@@ -215,7 +216,7 @@ pub record LacksException (text : List ℕ) (after : List Placed) (r : Refusal) 
 abbrev pub IsRead : List ℕ → List Piece → Type 0
 IsRead text ps = (s : State) × (run (Some start) (tokens text) ≡ Some s) × (whole s ≡ Some ps)
 
--- the error of a refusal, with the text; memory says nothing
+-- the error of a refusal, with the text; nothing is said of an allocation failure
 abbrev pub Becomes : Refusal → List ℕ → ReadError → Type 0
 Becomes r text (errors.Memory e) = Unit {0}
 Becomes (refusal.Unexpected expected found span) text (errors.Parse e) =

@@ -1,11 +1,11 @@
--- How the parts of an expression are gone over for its truth.
+-- How the truth of an expression is found part by part.
 use Rattle.std.specs.Prelude.{ℕ, suc, zero, ◌+◌, Bool, true, false, List, [], ◌∷◌, Option, Some, None}
 use Rattle.std.specs.Prelude.{if◌then◌else◌}
 use Rattle.spdx_expressions.specs.declared.allowed.Walk.{Walk as walked}
 use Rattle.spdx_expressions.specs.Trees.{Term, Piece, Named, And, Or, Open, Close}
 
--- What is known so far, and whether parts are passed over that can't change it: then, how many brackets were opened
--- since.
+-- What is known so far, and whether parts are skipped that can't change it: then also the number of brackets that were
+-- opened since.
 pub record Walk : Type 0 where
   pub value : Bool
   pub passing : Option ℕ

@@ -1,4 +1,4 @@
--- Each fact so far stands behind its length.
+-- Each fact so far is after its length.
 use Rattle.std.proofs.Common.{◌≡◌, ◌++◌, map, take}
 use Rattle.cargo_platform.specs.Trees.{value_of}
 use Rattle.byte_answers.specs.Counted.{counted_facts}

@@ -24,7 +24,7 @@ members-preserved-in-Some-members_of g c =
       ),
     )
 
--- the leaf is written, and what stands after it
+-- the leaf is written, and what is after it
 pub members-preserved : goal.members-preserved
 members-preserved g c =
     let left = c.members.left.now in

@@ -1,4 +1,4 @@
--- After the lines that were passed the rest stands.
+-- The rest is what follows the lines that were passed.
 use denote.Shadow.{shadow}
 use denote.Text.{Utf8}
 use Rattle.std.proofs.Common.{ℕ, ◌+◌, ◌≡◌}

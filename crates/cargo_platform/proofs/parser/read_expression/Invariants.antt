@@ -5,7 +5,7 @@ use Rattle.cargo_platform.specs.Inside.Ahead.{bytes_left}
 use Rattle.cargo_platform.specs.Inside.Parsing.{stack, at_done, Reads, IsClearAfter}
 use Rattle.cargo_platform.proofs.parser.read_expression.Given as goal
 
--- what was read opened the groups, and ended the expression that stands after them
+-- what was read opened the groups, and ended the expression that is after them
 abbrev pub invariant-groups : goal.invariant-groups
 invariant-groups l = record {
   same_text : l.reader.ahead.text ≡ l.fn.reader.ahead.text;

@@ -2,7 +2,7 @@ use Rattle.std.proofs.Common.{◌≡◌, ◌≢◌, ℕ, ◌+◌, ◌-◌, ◌*�
 use Rattle.std.specs.Prelude.{slice_index}
 use Rattle.cargo_platform.proofs.source.quote_from.Given as goal
 
--- no quote stands in the blocks before the place that was reached
+-- no quote is in the blocks before the place that was reached
 abbrev pub invariant-by_block : goal.invariant-by_block
 invariant-by_block l = record {
   within : l.at ≤ length l.bytes;

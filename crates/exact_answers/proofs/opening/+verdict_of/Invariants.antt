@@ -11,7 +11,7 @@ decreases-verdict_of g l = 2 * node_count l.e.now
 abbrev pub decreases-verdict_before_last : goal.decreases-verdict_before_last
 decreases-verdict_before_last g l = 2 * node_counts l.members.now + 1
 
--- the verdict hangs on what the loop has come to
+-- the verdict depends on what the loop has come to
 abbrev pub invariant-verdict_of-levels : goal.invariant-verdict_of-levels
 invariant-verdict_of-levels g l = record {
   hangs : HangsOn l.wanted (g.K.Knowledge.told l.known) (tree_of l.fn.e) (tree_of l.e);
@@ -21,7 +21,7 @@ invariant-verdict_of-levels g l = record {
 abbrev pub decreases-verdict_of-levels : goal.decreases-verdict_of-levels
 decreases-verdict_of-levels g l = node_count l.e
 
--- the group hangs on the members that are left
+-- the group depends on the members that are left
 abbrev pub invariant-verdict_before_last-members : goal.invariant-verdict_before_last-members
 invariant-verdict_before_last-members g l = record {
   hangs : HangsOn true (g.K.Knowledge.told l.known) (list_tree l.neutral (map tree_of l.members))

@@ -5,7 +5,7 @@ use Rattle.exact_answers.specs.Asking.{is_pair}
 use Rattle.exact_answers.specs.Inside.Paths.{refuses, turn_of}
 use Rattle.exact_answers.proofs.path.refuses.Given as goal
 
--- the answer hangs on the splits that are left
+-- the answer depends on the splits that are left
 abbrev pub invariant-loop-split : goal.invariant-loop-split
 invariant-loop-split l =
     refuses (is_pair (pair_of (value_of l.c))) (map turn_of (drop l.split-index l.splits))

@@ -3,7 +3,7 @@ use Rattle.exact_answers.specs.Possible.{is_value}
 use Rattle.exact_answers.specs.Inside.Paths.{takes, turn_of}
 use Rattle.exact_answers.proofs.path.takes_value.Given as goal
 
--- the answer hangs on the splits that are left
+-- the answer depends on the splits that are left
 abbrev pub invariant-loop-split : goal.invariant-loop-split
 invariant-loop-split l =
     takes (is_value (string_bytes l.key.name)) (map turn_of (drop l.split-index l.splits))

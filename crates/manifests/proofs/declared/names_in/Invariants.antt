@@ -4,7 +4,7 @@ use Rattle.manifests.specs.Declarations.{names_from, lexemes_in}
 use Rattle.manifests.specs.Steps.{behind}
 use Rattle.manifests.proofs.declared.names_in.Given as goal
 
--- the answer hangs on what is left
+-- the answer depends on what is left
 abbrev pub invariant-names : goal.invariant-names
 invariant-names l =
     names_from (names_of l.names.items) (behind l.before (lexemes_in (drop l.at l.tokens)))

@@ -4,7 +4,7 @@ use Rattle.cargo_platform.specs.Facts.{pair_of}
 use Rattle.partial_facts.specs.OneValued.{has_value}
 use Rattle.partial_facts.proofs.names.has_value.Given as goal
 
--- the answer hangs on the facts that are left
+-- the answer depends on the facts that are left
 abbrev pub invariant-loop-fact : goal.invariant-loop-fact
 invariant-loop-fact l =
     has_value (string_bytes l.key.name) (map pair_of (map value_of (drop l.fact-index l.facts)))

@@ -11,7 +11,7 @@ decreases-evaluate g l = 2 * node_count l.e.now
 abbrev pub decreases-last_member : goal.decreases-last_member
 decreases-last_member g l = 2 * node_counts l.members.now + 1
 
--- the answer hangs on what the loop has come to
+-- the answer depends on what the loop has come to
 abbrev pub invariant-evaluate-levels : goal.invariant-evaluate-levels
 invariant-evaluate-levels g l = record {
   answer : answer_by l.if_true l.if_false (kleene (g.K.Knowledge.told l.known) (tree_of l.e))
@@ -22,7 +22,7 @@ invariant-evaluate-levels g l = record {
 abbrev pub decreases-evaluate-levels : goal.decreases-evaluate-levels
 decreases-evaluate-levels g l = node_count l.e
 
--- the truth hangs on the members that are left
+-- the truth depends on the members that are left
 abbrev pub invariant-last_member-members : goal.invariant-last_member-members
 invariant-last_member-members g l = record {
   truth : HangsOn l.neutral (g.K.Knowledge.told l.known) l.is_known (trees_of (map tree_of (l.e ∷ l.left)))

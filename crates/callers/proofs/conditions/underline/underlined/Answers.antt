@@ -10,7 +10,7 @@ use Rattle.cargo_platform.specs.KeySpans.{IsSnippetOfKey, IsFoundInKey}
 use Rattle.callers.specs.Underline.{IsUnderlined}
 use Rattle.callers.proofs.conditions.underline.underlined.Goals as goal
 
--- a reader's error has a span, and that lies in the key
+-- a reader's error has a span, and that is in the key
 shown : (key orig : List ℕ) (fault : Fault) (span : Option (Range ℕ)) (lines : Option (String Global))
     → ((at : Range ℕ) (found : Option (Range ℕ)) → IsFoundInKey key orig fault at found)
     → IsRefusedCondition key orig fault → IsRefusedConditionAt key orig fault span

@@ -18,7 +18,7 @@ decreases-all_but_last g l = 3 * node_counts l.members.now + 2
 abbrev pub decreases-any_but_last : goal.decreases-any_but_last
 decreases-any_but_last g l = 3 * node_counts l.members.now + 2
 
--- the answer, and the asks that are left, hang on what the loop has come to
+-- the answer, and the asks that are left, depend on what the loop has come to
 abbrev pub invariant-is_true_in-levels : goal.invariant-is_true_in-levels
 invariant-is_true_in-levels g l =
     (asked l.is_asked (truth (g.F.Asked.meant l.facts) (tree_of l.e)) ≡ truth (g.F.Asked.meant l.facts)
@@ -30,7 +30,7 @@ invariant-is_true_in-levels g l =
 abbrev pub decreases-is_true_in-levels : goal.decreases-is_true_in-levels
 decreases-is_true_in-levels g l = node_count l.e
 
--- they hang on the members that are left
+-- they depend on the members that are left
 abbrev pub invariant-all_but_last-members : goal.invariant-all_but_last-members
 invariant-all_but_last-members g l =
     (all_true (g.F.Asked.meant l.facts) (trees_of (map tree_of l.left))

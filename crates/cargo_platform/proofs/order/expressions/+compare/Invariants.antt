@@ -16,7 +16,7 @@ decreases-compare_all_but_last l = 4 * node_counts l.ds.now + 3
 abbrev pub decreases-compare_members : goal.decreases-compare_members
 decreases-compare_members l = 4 * node_counts l.ds.now + 2
 
--- the answer hangs on what the loop has come to
+-- the answer depends on what the loop has come to
 abbrev pub invariant-compare-levels : goal.invariant-compare-levels
 invariant-compare-levels l =
     (tree_cmp (tree_of l.d) (tree_of l.e) ≡ tree_cmp (tree_of l.a) (tree_of l.b)) × (node_count l.d ≤ node_count l.a)
@@ -24,7 +24,7 @@ invariant-compare-levels l =
 abbrev pub decreases-compare-levels : goal.decreases-compare-levels
 decreases-compare-levels l = node_count l.d
 
--- the answer hangs on the members that are left
+-- the answer depends on the members that are left
 abbrev pub invariant-compare_members-loop-d : goal.invariant-compare_members-loop-d
 invariant-compare_members-loop-d l =
     trees_cmp (trees_of (map tree_of (drop (length l.yielded) l.ds)))

@@ -3,7 +3,7 @@ use Rattle.cargo_platform.specs.Trees.{value_of}
 use Rattle.manifests.specs.Declarations.{is_declared, entry_in}
 use Rattle.manifests.proofs.declared.Declared.declares.Given as goal
 
--- the answer hangs on the entries that are left
+-- the answer depends on the entries that are left
 abbrev pub invariant-entries : goal.invariant-entries
 invariant-entries l =
     is_declared (map entry_in (drop l.entry-index l.entry-items)) (value_of l.c)
