@@ -1,6 +1,6 @@
 //! The targets on which each fact follows.
 
-ghost use Rattle.std.specs.Prelude.{◌≡◌, ◌<◌, ◌≤◌, ◌↔◌, ℕ, IsTrue, IfOk, vec_len, slice_index, All, Contains};
+ghost use Rattle.std.specs.Prelude.{◌≡◌, ◌<◌, ◌↔◌, ℕ, IsTrue, IfOk, vec_len, All, Contains};
 ghost use Rattle.known_targets.specs.declared.table.TheConstants.{COUNT};
 ghost use Rattle.package_graphs.specs.Graphs.{is_in};
 ghost use Rattle.cargo_features.specs.Derivations.{IsDerived};
@@ -15,8 +15,8 @@ use std::collections::VecDeque;
 /// Returns for each fact the targets on which it follows: it is given there, or a rule that applies there leads to it
 /// from facts that follow there.
 ///
-/// There are as many facts as given sets. A rule that names a number past these leads to no fact. Fails only if memory
-/// is refused.
+/// There are as many facts as given sets. A rule that names a number past these leads to no fact. Fails only if an
+/// allocation fails.
 pub fn derived(
     alloc: Global,
     given: Vec<TargetSet>,
@@ -28,47 +28,19 @@ pub fn derived(
     ensures exact { IfOk result (λ sets. (n k : ℕ) → n < vec_len given → k < COUNT
         → IsTrue (is_in sets.items n k) ↔ IsDerived given.items rules.now k n) }
 {
-    let Counted { sets, .. } = derived_counted(alloc, given, rules)?;
-    Ok(sets)
-}
-
-/// The targets on which each fact follows, and how often its rules were applied.
-#[derive(Drop)]
-pub struct Counted {
-    pub sets: Vec<TargetSet>,
-    pub rounds: Vec<usize>,
-}
-
-/// Returns what `derived` returns, and for each fact how often the rules in which it is a premise were applied: at most
-/// once for each known target. Fails only if memory is refused.
-pub fn derived_counted(
-    alloc: Global,
-    given: Vec<TargetSet>,
-    rules: &[Rule],
-) -> Result<Counted, AllocError>
-    // There is a set for each fact.
-    ensures count { IfOk result (λ c. vec_len c.sets ≡ vec_len given) }
-    // A target is in a fact's set exactly if a finite tree of rules leads there from what is given.
-    ensures exact { IfOk result (λ c. (n k : ℕ) → n < vec_len given → k < COUNT
-        → IsTrue (is_in c.sets.items n k) ↔ IsDerived given.items rules.now k n) }
-    // The rules of each fact are applied at most once for each known target.
-    ensures rounds { IfOk result (λ c. (n : ℕ) → slice_index c.rounds.items n ≤ COUNT) }
-{
     let count = given.len();
     let premises = Premises::of(alloc, count, rules)?;
     let mut sets = given;
     let mut done = vec![in alloc; TargetSet::none(); count]?;
-    let mut rounds = vec![in alloc; 0; count]?;
     let mut waiting = all_facts(alloc, count)?;
     'facts: while let Some(fact) = waiting.pop_front() {
         if done[fact].equals(sets[fact]) {
             continue;
         }
         done[fact] = sets[fact];
-        rounds[fact] += 1;
         apply(rules, premises.at(fact), &done, &mut sets, &mut waiting)?;
     }
-    Ok(Counted { sets, rounds })
+    Ok(sets)
 }
 
 /// Returns a queue of `count` facts.

@@ -17,7 +17,7 @@ mod steps;
 
 pub use build::Build;
 pub use claims::{Claim, Condition};
-pub use derivation::{Counted, derived, derived_counted};
+pub use derivation::derived;
 pub use packages::{Dependency, Member, Package};
 pub use resolved::{Resolved, resolve, used_packages};
 pub use rules::Rule;

@@ -51,19 +51,3 @@ lacking_less n p q h other =
       | inl less ↦ omega arith
       | inr same ↦ absurd (other (lacking_same n p q h same))
     ]
-
-one_most : (b : Bool) → cond b 0 1 ≤ 1
-one_most true = omega arith
-one_most false = omega arith
-
-pub flag_most : (b : Bool) → cond b 1 0 ≤ 1
-flag_most true = omega arith
-flag_most false = omega arith
-
-pub lacking_most : (n : ℕ) (p : ℕ → Bool) → count_lacking n p ≤ n
-unfolding count_lacking
-lacking_most zero p = omega arith
-lacking_most (suc n) p =
-    let here = one_most (p n) in
-    let before = lacking_most n p in
-    omega (arith, here, before)

@@ -15,4 +15,4 @@ pub use graph::{Edge, Graph};
 pub use package_sets::{PackageSets, present_packages};
 pub use packages::{Dependency, Kind, Kinds, Package, Side};
 pub use paths::{Step, shortest_path, shortest_path_on};
-pub use presence::{Counted, present, present_counted};
+pub use presence::present;

@@ -2,12 +2,12 @@
 
 ghost use Rattle.std.specs.Prelude.{◌≡◌, ◌<◌, ◌+◌, ◌*◌, ◌≤◌, ◌↔◌, ℕ, true, false, ◌&&◌, ◌||◌, ◌==◌, IsTrue, IfOk};
 ghost use Rattle.std.specs.Prelude.{OnOk};
-ghost use Rattle.std.specs.Prelude.{length, vec_len, List, slice_index};
+ghost use Rattle.std.specs.Prelude.{length, vec_len, List};
 ghost use Rattle.std.specs.VecDeque.{deque_len};
 ghost use Rattle.known_targets.specs.Sets.{is_member};
 ghost use Rattle.known_targets.specs.declared.table.TheConstants.{COUNT};
 ghost use Rattle.package_graphs.specs.Graphs.{edge_lists, edges_from, IsPresent, is_in};
-ghost use Rattle.package_graphs.specs.Inside.Spreading.{waits, IsQueue, node_count, missing, rounds_left, AreSound};
+ghost use Rattle.package_graphs.specs.Inside.Spreading.{waits, IsQueue, node_count, missing, AreSound};
 ghost use Rattle.package_graphs.specs.Inside.Spreading.{AreCarried};
 
 use crate::graph::{Edge, Graph};
@@ -18,7 +18,7 @@ use std::alloc::{AllocError, Global};
 /// Returns for each node the targets on which it is reached: those on which edges lead to it from a root.
 ///
 /// The edges of a node are visited again only after its set has grown. A root that is not a node is ignored, and so is
-/// an edge to none. Fails only if memory is refused.
+/// an edge to none. Fails only if an allocation fails.
 pub fn present(alloc: Global, graph: &Graph, roots: &[usize]) -> Result<Vec<TargetSet>, AllocError>
     // Each node has a set.
     ensures count { IfOk result (λ sets. vec_len sets ≡ length (edge_lists graph.now)) }
@@ -27,31 +27,7 @@ pub fn present(alloc: Global, graph: &Graph, roots: &[usize]) -> Result<Vec<Targ
     ensures exact { IfOk result (λ sets. (n k : ℕ) → n < length (edge_lists graph.now) → k < COUNT
         → IsTrue (is_in sets.items n k) ↔ IsPresent (edge_lists graph.now) roots.now k n) }
 {
-    let Counted { sets, .. } = present_counted(alloc, graph, roots)?;
-    Ok(sets)
-}
-
-/// The targets on which each node is reached, and how often its edges were visited.
-#[derive(Drop)]
-pub struct Counted {
-    pub sets: Vec<TargetSet>,
-    pub rounds: Vec<usize>,
-}
-
-/// Returns what `present` returns, and for each node how often its edges were visited: at most once for each known
-/// target. Fails only if memory is refused.
-pub fn present_counted(alloc: Global, graph: &Graph, roots: &[usize]) -> Result<Counted, AllocError>
-    // Each node has a set.
-    ensures count { IfOk result (λ c. vec_len c.sets ≡ length (edge_lists graph.now)) }
-    // A target is in the set of a node exactly if edges lead there from a root, and the target is in the set of each of
-    // them.
-    ensures exact { IfOk result (λ c. (n k : ℕ) → n < length (edge_lists graph.now) → k < COUNT
-        → IsTrue (is_in c.sets.items n k) ↔ IsPresent (edge_lists graph.now) roots.now k n) }
-    // The edges of a node are visited at most as often as there are known targets.
-    ensures rounds { IfOk result (λ c. (n : ℕ) → slice_index c.rounds.items n ≤ COUNT) }
-{
     let mut sets = vec![in alloc; TargetSet::none(); graph.len()]?;
-    let mut rounds = vec![in alloc; 0; graph.len()]?;
     let mut queue = Queue::new(alloc, graph.len())?;
     'roots: for root in roots {
         if *root >= sets.len() {
@@ -61,9 +37,8 @@ pub fn present_counted(alloc: Global, graph: &Graph, roots: &[usize]) -> Result<
     }
     'nodes: while let Some(node) = queue.next() {
         go_over(graph, node, &mut sets, &mut queue)?;
-        rounds[node] += 1;
     }
-    Ok(Counted { sets, rounds })
+    Ok(sets)
 }
 
 /// Adds targets to the set of a node. If the set grows, the node is queued.
@@ -84,8 +59,6 @@ fn add(
     ensures waited { OnOk result ((n : ℕ) → waits queue.new n ≡ false → waits queue.old n ≡ false) }
     ensures same { OnOk result ((n k : ℕ) → k < COUNT → waits queue.new n ≡ false
         → is_in sets.new.items n k ≡ is_in sets.old.items n k) }
-    ensures left { OnOk result ((n : ℕ)
-        → rounds_left sets.new.items queue.new n ≤ rounds_left sets.old.items queue.old n) }
     ensures work { OnOk result (2 * missing sets.new.items + deque_len queue.new.nodes
         ≤ 2 * missing sets.old.items + deque_len queue.old.nodes) }
 {
@@ -129,8 +102,6 @@ fn go_over(
         (length (edges_from (edge_lists graph.now) node))) }
     ensures sound { OnOk result ((roots : List ℕ) → AreSound (edge_lists graph.now) roots (is_in sets.old.items)
         → AreSound (edge_lists graph.now) roots (is_in sets.new.items)) }
-    ensures left { OnOk result ((n : ℕ)
-        → rounds_left sets.new.items queue.new n ≤ rounds_left sets.old.items queue.old n) }
     ensures work { OnOk result (2 * missing sets.new.items + deque_len queue.new.nodes
         ≤ 2 * missing sets.old.items + deque_len queue.old.nodes) }
 {

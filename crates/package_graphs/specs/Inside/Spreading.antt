@@ -50,11 +50,3 @@ AreCarried graph at m many = (j : ℕ) → j < many → (d : Edge) → j < lengt
 -- each member of the sets is one by the relation
 abbrev pub AreSound : Edges → List ℕ → (ℕ → ℕ → Bool) → Type 0
 AreSound graph roots at = (n k : ℕ) → k < COUNT → at n k ≡ true → IsPresent graph roots k n
-
--- the number of members that the set of a node lacks
-abbrev pub lacking_at : List TargetSet → ℕ → ℕ
-lacking_at sets n = slice_index_or (map lacking sets) n 0
-
--- how often the edges of a node can still be visited
-abbrev pub rounds_left : List TargetSet → Queue → ℕ → ℕ
-rounds_left sets queue n = lacking_at sets n + cond (waits queue n) 1 0

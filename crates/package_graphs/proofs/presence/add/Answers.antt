@@ -1,4 +1,4 @@
-use Rattle.std.proofs.Common.{cond, subst, ℕ, ◌≡◌, ◌<◌, length, ◌||◌, ◌&&◌, ◌==◌, ◌+◌, ◌≤◌, true, false, Bool, set}
+use Rattle.std.proofs.Common.{ℕ, ◌≡◌, ◌<◌, length, ◌||◌, ◌&&◌, ◌==◌, ◌+◌, ◌≤◌, true, false, Bool, set}
 use Rattle.std.proofs.Common.{refl, sym, ◌∙◌}
 use Rattle.std.proofs.Common.{ap, inl, inr, arith}
 use Rattle.std.proofs.lemmas.Bool.{cases_eq, or_parts, or_left, eq-eqb, ne_eqb, eqb-false, false≢true}
@@ -6,10 +6,9 @@ use Rattle.std.proofs.lemmas.List.Sums.{sum_by-set}
 use Rattle.known_targets.specs.Sets.{is_member}
 use Rattle.known_targets.specs.declared.table.TheConstants.{COUNT}
 use Rattle.package_graphs.specs.Graphs.{is_in}
-use Rattle.package_graphs.specs.Inside.Spreading.{lacking, waits, rounds_left}
-use Rattle.package_graphs.proofs.Lacking.{lacking_less, flag_most}
-use Rattle.package_graphs.proofs.SetLists.{lacking_same_place, lacking_other_place, lacking_read, is_in_read}
-use Rattle.package_graphs.proofs.SetLists.{is_in_same, is_in_other}
+use Rattle.package_graphs.specs.Inside.Spreading.{lacking, waits}
+use Rattle.package_graphs.proofs.Lacking.{lacking_less}
+use Rattle.package_graphs.proofs.SetLists.{is_in_read, is_in_same, is_in_other}
 use Rattle.package_graphs.proofs.presence.add.Goals as goal
 
 or_none : (a b c : _) → b ≡ false → a ≡ (a || (b && c))
@@ -44,12 +43,6 @@ returns-in_ok-add-clause-same c n k below rests =
     let waits = or_parts (n == c.args.node) _ (sym (c.in_ok-add.ensures.waits n) ∙ rests) in
     is_in_other c.args.sets.now.items c.args.node c.union-all.result n k (eqb-false n c.args.node waits.0)
 
-grown_lacks_less : (c : goal.In_ok-add) → lacking c.union-all.result + 1 ≤ lacking c.index-old.result.now
-grown_lacks_less c =
-    lacking_less COUNT (is_member c.index-old.result.now) (is_member c.union-all.result)
-    (λ k below h. c.union-all.ensures k below ∙ or_left _ _ h)
-    (λ same. false≢true (c.if-not-equals.ensures.no same))
-
 pub returns-in_ok-add-clause-work : goal.returns-in_ok-add-clause-work
 returns-in_ok-add-clause-work c =
     let sets = c.args.sets.now.items in
@@ -64,32 +57,3 @@ returns-in_ok-add-clause-work c =
     let sum = sum_by-set lacking sets node all old fits in
     let at = ap lacking c.index-old.ensures in
     omega (arith, less, sum, at, c.in_ok-add.ensures.work)
-
-abbrev flag_of : Bool → ℕ
-flag_of b = cond b 1 0
-
-pub returns-in_ok-add-clause-left : goal.returns-in_ok-add-clause-left
-returns-in_ok-add-clause-left c n =
-    let sets = c.args.sets.now.items in
-    let node = c.args.node in
-    let all = c.union-all.result in
-    let fits : node < length sets = omega (arith, c.requires.known, c.args.sets.now.ok.0) in
-    elim (cases_eq n node)
-    as (λ _. rounds_left (set sets node all) c.add.new.self n ≤ rounds_left sets c.args.queue.now n) [
-      | inl same ↦
-          let new = lacking_same_place sets node all fits in
-          let old = lacking_read sets node c.index-old.result.now fits c.index-old.ensures in
-          let fewer = grown_lacks_less c in
-          let flag = flag_most (waits c.add.new.self node) in
-          let fewer_left : rounds_left (set sets node all) c.add.new.self node
-          ≤ rounds_left sets c.args.queue.now node =
-          omega (arith, new, old, fewer, flag) in
-          subst (λ (x : ℕ). rounds_left (set sets node all) c.add.new.self x ≤ rounds_left sets c.args.queue.now x)
-          (sym same) fewer_left
-      | inr other ↦
-          let lacks = lacking_other_place sets node all n other in
-          let waits_as : waits c.add.new.self n ≡ waits c.args.queue.now n =
-          c.in_ok-add.ensures.waits n ∙ ap (λ (b : Bool). b || waits c.args.queue.now n) (ne_eqb n node other) in
-          let flag = ap flag_of waits_as in
-          omega (arith, lacks, flag)
-    ]

@@ -50,9 +50,5 @@ edges-preserved c =
           along graph roots at node i edge inside is (c.edges.invariant.sound roots h) k known
           (read k ∙ parts.0) parts.1)
           (c.edges.invariant.sound roots h);
-      left = λ n.
-          let now = c.in_ok-add.ensures.left n in
-          let before = c.edges.invariant.left n in
-          omega (arith, now, before);
       work = omega (arith, c.in_ok-add.ensures.work, c.edges.invariant.work);
     }

@@ -2,7 +2,7 @@ use Rattle.std.proofs.Common.{◌≡◌, ◌<◌, ◌+◌, ◌*◌, ◌≤◌, �
 use Rattle.std.specs.VecDeque.{deque_len}
 use Rattle.known_targets.specs.declared.table.TheConstants.{COUNT}
 use Rattle.package_graphs.specs.Graphs.{edge_lists, is_in}
-use Rattle.package_graphs.specs.Inside.Spreading.{waits, IsQueue, node_count, missing, rounds_left, AreSound}
+use Rattle.package_graphs.specs.Inside.Spreading.{waits, IsQueue, node_count, missing, AreSound}
 use Rattle.package_graphs.specs.Inside.Spreading.{AreCarried}
 use Rattle.package_graphs.proofs.presence.go_over.Given as goal
 
@@ -17,7 +17,6 @@ invariant-edges l = record {
   carried : waits l.queue l.node ≡ false → AreCarried (edge_lists l.graph) (is_in l.sets.items) l.node l.edge-index;
   sound : (roots : List ℕ) → AreSound (edge_lists l.graph) roots (is_in l.fn.sets.items)
       → AreSound (edge_lists l.graph) roots (is_in l.sets.items);
-  left : (n : ℕ) → rounds_left l.sets.items l.queue n ≤ rounds_left l.fn.sets.items l.fn.queue n;
   work : 2 * missing l.sets.items + deque_len l.queue.nodes
       ≤ 2 * missing l.fn.sets.items + deque_len l.fn.queue.nodes;
 }

@@ -2,9 +2,9 @@ use Rattle.std.proofs.Common.{◌≤◌, ◌≡◌, ◌<◌, ◌+◌, ◌*◌, �
 use Rattle.std.specs.VecDeque.{deque_len}
 use Rattle.known_targets.specs.declared.table.TheConstants.{COUNT}
 use Rattle.package_graphs.specs.Graphs.{edge_lists, edges_from, is_in}
-use Rattle.package_graphs.specs.Inside.Spreading.{waits, IsQueue, node_count, missing, rounds_left, AreSound}
+use Rattle.package_graphs.specs.Inside.Spreading.{waits, IsQueue, node_count, missing, AreSound}
 use Rattle.package_graphs.specs.Inside.Spreading.{AreCarried}
-use Rattle.package_graphs.proofs.presence.present_counted.Given as goal
+use Rattle.package_graphs.proofs.presence.present.Given as goal
 
 abbrev pub invariant-roots : goal.invariant-roots
 invariant-roots l = record {
@@ -14,7 +14,6 @@ invariant-roots l = record {
   rooted : (i : ℕ) → i < l.root-index → get_or l.roots i 0 < vec_len l.sets → (k : ℕ) → k < COUNT
       → is_in l.sets.items (get_or l.roots i 0) k ≡ true;
   resting : (n k : ℕ) → k < COUNT → waits l.queue n ≡ false → is_in l.sets.items n k ≡ false;
-  left : (n : ℕ) → rounds_left l.sets.items l.queue n ≤ COUNT;
   sound : AreSound (edge_lists l.graph) l.roots (is_in l.sets.items);
 }
 
@@ -27,8 +26,6 @@ invariant-nodes l = record {
       → is_in l.sets.items (get_or l.roots i 0) k ≡ true;
   carried : (m : ℕ) → waits l.queue m ≡ false
       → AreCarried (edge_lists l.graph) (is_in l.sets.items) m (length (edges_from (edge_lists l.graph) m));
-  rounds : vec_len l.rounds ≡ vec_len l.sets;
-  left : (n : ℕ) → get_or l.rounds.items n 0 + rounds_left l.sets.items l.queue n ≤ COUNT;
   sound : AreSound (edge_lists l.graph) l.roots (is_in l.sets.items);
 }
 

@@ -1,23 +1,18 @@
-use Rattle.std.proofs.Common.{cond, Bool, ◌≤◌, set, subst, inl, inr, ◌≡◌, ◌<◌, ◌+◌, ◌⊎◌, ℕ, true, false}
+use Rattle.std.proofs.Common.{set, subst, inl, inr, ◌≡◌, ◌<◌, ◌⊎◌, ℕ, true, false}
 use Rattle.std.proofs.Common.{List, [], ◌∷◌, length, get_or, vec_len, refl, sym, ◌∙◌, ap, arith}
 use Rattle.std.specs.Prelude.{All, Contains}
 use Rattle.std.proofs.lemmas.Bool.{false≢true, cases_eq}
-use Rattle.known_targets.specs.Sets.{is_member}
 use Rattle.known_targets.specs.declared.target_set.TargetSet.{TargetSet}
 use Rattle.known_targets.specs.declared.table.TheConstants.{COUNT}
 use Rattle.package_graphs.specs.Graphs.{is_in}
-use Rattle.std.proofs.Common.{drop, length-drop, get_or-set_same, get_or-set_other}
-use Rattle.std.proofs.lemmas.List.{get_or_default}
-use Rattle.package_graphs.specs.Inside.Spreading.{lacking, lacking_at}
-use Rattle.package_graphs.proofs.Lacking.{lacking_less}
-use Rattle.package_graphs.proofs.SetLists.{is_in_none, is_in_read, is_in_same, is_in_other, lacking_at_most, zero_at}
-use Rattle.package_graphs.proofs.SetLists.{lacking_same_place, lacking_other_place, lacking_read}
+use Rattle.std.proofs.Common.{drop, length-drop}
+use Rattle.package_graphs.proofs.SetLists.{is_in_none, is_in_read, is_in_same, is_in_other}
 use Rattle.package_graphs.proofs.Waiting.{known_rest, known_first}
 use Rattle.cargo_features.specs.Deriving.{given}
 use Rattle.cargo_features.specs.Inside.Working.{IsAsBefore}
 use Rattle.cargo_features.specs.Inside.Listing.{place_lists, IsListed}
 use Rattle.cargo_features.proofs.Working.{in_tail, complete, applied_now, applied_listed, applied_all}
-use Rattle.cargo_features.proofs.derivation.derived_counted.Goals as goal
+use Rattle.cargo_features.proofs.derivation.derived.Goals as goal
 
 pub facts-init : goal.facts-init
 facts-init c =
@@ -28,19 +23,12 @@ facts-init c =
     record {
       sets = sym c.len-count.ensures;
       done = c.in_ok-done.ensures.len;
-      rounds = c.in_ok-rounds.ensures.len;
       known = c.in_ok-waiting.ensures.known;
       has = λ n k known here. here;
       within = λ n k known here. absurd (false≢true (sym (empty n k) ∙ here));
       waits = λ n below. inl (c.in_ok-waiting.ensures.all n below);
       applied = λ j below d k known inside first second holds.
           absurd (false≢true (sym (empty (get_or c.args.rules.now j d).first k) ∙ first));
-      left = λ n.
-          let none : get_or c.in_ok-rounds.rounds.items n 0 ≡ 0 =
-          ap (λ (ns : List ℕ). get_or ns n 0) (c.in_ok-rounds.ensures.items_if_clones_equal (λ y same. same))
-          ∙ zero_at c.len-count.result n in
-          let lacks = lacking_at_most c.in_ok-done.done.items n c.none.result in
-          omega (arith, none, lacks);
       sound = λ n k known here. given n here;
     }
 
@@ -64,7 +52,6 @@ facts-preserved-then-equals c =
     record {
       sets = old.sets;
       done = old.done;
-      rounds = old.rounds;
       known = known_rest c.len-count.result queue rest fact items old.known;
       has = old.has;
       within = old.within;
@@ -78,7 +65,6 @@ facts-preserved-then-equals c =
                 ]
           ];
       applied = old.applied;
-      left = old.left;
       sound = old.sound;
     }
 
@@ -99,7 +85,6 @@ facts-preserved c =
     let inside : fact < c.len-count.result = known_first c.len-count.result queue rest fact items old.known in
     let done_in : fact < length before = omega (arith, inside, old.done, c.facts.done.ok.0) in
     let sets_in : fact < length sets = omega (arith, inside, old.sets, c.facts.sets.ok.0) in
-    let rounds_in : fact < length c.facts.rounds.items = omega (arith, inside, old.rounds, c.facts.rounds.ok.0) in
     let here : (k : ℕ) → is_in done fact k ≡ is_in sets fact k =
     λ k. is_in_same before fact set_now k done_in ∙ sym (is_in_read sets fact set_now k sets_in
     c.index-in-Some-2.ensures) in
@@ -123,7 +108,6 @@ facts-preserved c =
     record {
       sets = end.count ∙ old.sets;
       done = old.done;
-      rounds = old.rounds;
       known = subst (λ (x : ℕ). All (λ n. n < x) c.apply.new.waiting.items) old.sets
           (end.known (subst (λ (x : ℕ). All (λ n. n < x) rest) (sym old.sets)
           (known_rest c.len-count.result queue rest fact items old.known)));
@@ -155,53 +139,9 @@ facts-preserved c =
           applied_now rules before done sets now fact j d there end.grown same (old.applied j below d)
           (λ e. applied_listed rules done now c.at.result.now j d below (listed rule.first j e placed.0) end.applied)
           (λ e. applied_listed rules done now c.at.result.now j d below (listed rule.second j e placed.1) end.applied);
-      left = λ n.
-          elim (cases_eq n fact)
-          as (λ _. get_or (set c.facts.rounds.items fact (c.index_mut-in-Some.result.now + 1)) n 0
-          + lacking_at done n ≤ COUNT) [
-            | inl same ↦
-                let before_here = old.left fact in
-                let count = get_or_default c.facts.rounds.items fact c.index_mut-in-Some.result.now 0 rounds_in in
-                let was = c.index_mut-in-Some.ensures.value in
-                let is = get_or-set_same c.facts.rounds.items fact (c.index_mut-in-Some.result.now + 1) 0 rounds_in in
-                let lacked = lacking_read before fact c.index.result.now done_in c.index.ensures in
-                let lacks = lacking_same_place before fact set_now done_in in
-                let fewer : lacking set_now + 1 ≤ lacking c.index.result.now =
-                lacking_less COUNT (is_member c.index.result.now) (is_member set_now)
-                (λ k low h.
-                sym (is_in_read sets fact set_now k sets_in c.index-in-Some-2.ensures)
-                ∙ old.within fact k low (is_in_read before fact c.index.result.now k done_in c.index.ensures ∙ h))
-                (λ alike. false≢true (c.if-equals.ensures.no (λ k low.
-                sym (alike k low)
-                ∙ sym (is_in_read sets fact set_now k sets_in c.index-in-Some-2.ensures)
-                ∙ is_in_read sets fact c.index-in-Some.result.now k sets_in c.index-in-Some.ensures))) in
-                let whole : get_or (set c.facts.rounds.items fact (c.index_mut-in-Some.result.now + 1)) fact 0
-                + lacking_at done fact ≤ COUNT =
-                omega (arith, before_here, count, was, is, lacked, lacks, fewer) in
-                subst (λ (x : ℕ). get_or (set c.facts.rounds.items fact (c.index_mut-in-Some.result.now + 1)) x 0
-                + lacking_at done x ≤ COUNT) (sym same) whole
-            | inr other ↦
-                let before_here = old.left n in
-                let is = get_or-set_other c.facts.rounds.items fact n (c.index_mut-in-Some.result.now + 1) 0 other in
-                let lacks = lacking_other_place before fact set_now n other in
-                omega (arith, before_here, is, lacks)
-          ];
       sound = end.sound c.args.given.items (omega (arith, old.sets, c.len-count.ensures, c.args.given.ok.0))
           (λ n k known h. old.sound n k known (within n k known h)) old.sound;
     }
-
-pub overflow_add-index_mut : goal.overflow_add-index_mut
-overflow_add-index_mut c =
-    let old = c.facts.invariant in
-    let inside : c.in-Some.fact < c.len-count.result =
-    known_first c.len-count.result c.facts.waiting.items c.pop_front.new.self.items c.in-Some.fact
-    c.in-Some.ensures.items old.known in
-    let rounds_in : c.in-Some.fact < length c.facts.rounds.items =
-    omega (arith, inside, old.rounds, c.facts.rounds.ok.0) in
-    let count = get_or_default c.facts.rounds.items c.in-Some.fact c.index_mut-in-Some.result.now 0 rounds_in in
-    let was = c.index_mut-in-Some.ensures.value in
-    let left = old.left c.in-Some.fact in
-    omega (arith, count, was, left)
 
 pub returns-clause-exact : goal.returns-clause-exact
 returns-clause-exact c n k inside known =

@@ -1,5 +1,4 @@
-use Rattle.std.proofs.Common.{get_or-set_same, get_or-set_other, ◌+◌}
-use Rattle.std.proofs.Common.{cond, Bool, not, ◌&&◌, ◌≤◌, set, subst, inl, inr, ◌≡◌, ◌<◌, ℕ, true, false, ◌==◌}
+use Rattle.std.proofs.Common.{Bool, not, ◌&&◌, subst, inl, inr, ◌≡◌, ◌<◌, ℕ, true, false, ◌==◌}
 use Rattle.std.proofs.Common.{List, length, get_or, vec_len, refl, sym, ◌∙◌, ap}
 use Rattle.std.proofs.Common.{below_more, rules, arith}
 use Rattle.std.proofs.lemmas.Bool.{false≢true, or_left, or_right, and_from, eq-eqb, ne_eqb, cases_eq}
@@ -10,13 +9,10 @@ use Rattle.package_graphs.specs.Reaching.{starts}
 use Rattle.package_graphs.proofs.Carried.{sound_more, carried_kept}
 use Rattle.known_targets.specs.declared.table.TheConstants.{COUNT}
 use Rattle.package_graphs.specs.Graphs.{edge_lists, edges_from, is_in}
-use Rattle.package_graphs.specs.Inside.Spreading.{waits, rounds_left, AreCarried}
-use Rattle.package_graphs.proofs.SetLists.{is_in_none, lacking_at_most, zero_at}
+use Rattle.package_graphs.specs.Inside.Spreading.{waits, AreCarried}
+use Rattle.package_graphs.proofs.SetLists.{is_in_none}
 use Rattle.package_graphs.proofs.Complete.{by_place, complete}
-use Rattle.package_graphs.proofs.presence.present_counted.Goals as goal
-
-abbrev flag_of : Bool → ℕ
-flag_of b = cond b 1 0
+use Rattle.package_graphs.proofs.presence.present.Goals as goal
 
 pub roots-init : goal.roots-init
 roots-init c =
@@ -30,10 +26,6 @@ roots-init c =
       count = search rules;
       rooted = λ i below. absurd (omega arith);
       resting = λ n k known rests. empty n k;
-      left = λ n.
-          let lacks = lacking_at_most c.in_ok-sets.sets.items n c.none.result in
-          let flag : cond (waits c.in_ok-queue.queue n) 1 0 ≡ 0 = ap flag_of (c.in_ok-queue.ensures.waits n) in
-          omega (arith, lacks, flag);
       sound = λ n k known h. absurd (false≢true (sym (empty n k) ∙ h));
     }
 
@@ -72,10 +64,6 @@ roots-preserved c =
           ∙ or_right (at root k) _ (and_from (root == root) _ (eq-eqb root root refl) (c.all.ensures k known)));
       resting = λ n k known rests. c.in_ok-add.ensures.same n k known rests
           ∙ c.roots.invariant.resting n k known (c.in_ok-add.ensures.waited n rests);
-      left = λ n.
-          let now = c.in_ok-add.ensures.left n in
-          let before = c.roots.invariant.left n in
-          omega (arith, now, before);
       sound =
           sound_more graph roots at new root (is_member c.all.result) c.in_ok-add.ensures.sets
           (λ k known more. starts root (i, c.roots-test.true, get_or_default roots i root 0 c.roots-test.true))
@@ -92,13 +80,6 @@ nodes-init c =
       rooted = λ i below fits k known. old.rooted i (omega (arith, below, c.roots-test.false)) fits k known;
       carried = λ m rests j below d inside k known end here holds.
           absurd (false≢true (sym (old.resting m k known rests) ∙ here));
-      rounds = c.in_ok-rounds.ensures.len ∙ c.len-2.ensures ∙ sym old.count;
-      left = λ n.
-          let none : get_or c.in_ok-rounds.rounds.items n 0 ≡ 0 =
-          ap (λ (ns : List ℕ). get_or ns n 0) (c.in_ok-rounds.ensures.items_if_clones_equal (λ y same. same))
-          ∙ zero_at c.len-2.result n in
-          let before = old.left n in
-          omega (arith, none, before);
       sound = old.sound;
     }
 
@@ -110,8 +91,6 @@ nodes-preserved c =
     let node = c.in-Some.node in
     let at = is_in c.nodes.sets.items in
     let new = is_in c.go_over.new.sets.items in
-    let fits : node < length c.nodes.rounds.items =
-    omega (arith, c.in-Some.ensures.known, old.nodes, old.rounds, c.nodes.rounds.ok.0) in
     let other_waits : (n : ℕ) → (n ≡ node → ⊥) → waits c.next.new.self n ≡ waits c.nodes.queue n =
     λ n other.
     c.in-Some.ensures.waits n ∙ ap (λ (b : Bool). not b && waits c.nodes.queue n) (ne_eqb n node other) in
@@ -132,46 +111,5 @@ nodes-preserved c =
                 (λ k known. now.same m k known rests)
                 (old.carried m (sym (other_waits m other) ∙ now.waited m rests))
           ];
-      rounds = old.rounds ∙ sym now.count;
-      left = λ n.
-          let before = old.left n in
-          let after = now.left n in
-          elim (cases_eq n node)
-          as (λ _. get_or (set c.nodes.rounds.items node (c.index_mut.result.now + 1)) n 0
-          + rounds_left c.go_over.new.sets.items c.go_over.new.queue n ≤ COUNT) [
-            | inl same ↦
-                let count = get_or_default c.nodes.rounds.items node c.index_mut.result.now 0 fits in
-                let was = c.index_mut.ensures.value in
-                let is = get_or-set_same c.nodes.rounds.items node (c.index_mut.result.now + 1) 0 fits in
-                let before_here = old.left node in
-                let after_here = now.left node in
-                let flag : cond (waits c.nodes.queue node) 1 0 ≡ 1 = ap flag_of c.in-Some.ensures.was in
-                let rests : waits c.next.new.self node ≡ false =
-                c.in-Some.ensures.waits node
-                ∙ ap (λ (b : Bool). not b && waits c.nodes.queue node) (eq-eqb node node refl) in
-                let no_flag : cond (waits c.next.new.self node) 1 0 ≡ 0 = ap flag_of rests in
-                let here : get_or (set c.nodes.rounds.items node (c.index_mut.result.now + 1)) node 0
-                + rounds_left c.go_over.new.sets.items c.go_over.new.queue node ≤ COUNT =
-                omega (arith, count, was, is, before_here, after_here, flag, no_flag) in
-                subst (λ (x : ℕ). get_or (set c.nodes.rounds.items node (c.index_mut.result.now + 1)) x 0
-                + rounds_left c.go_over.new.sets.items c.go_over.new.queue x ≤ COUNT) (sym same) here
-            | inr other ↦
-                let is = get_or-set_other c.nodes.rounds.items node n (c.index_mut.result.now + 1) 0 other in
-                let flag = ap flag_of (other_waits n other) in
-                omega (arith, is, before, after, flag)
-          ];
       sound = now.sound c.args.roots.now old.sound;
     }
-
-pub overflow_add-index_mut : goal.overflow_add-index_mut
-overflow_add-index_mut c =
-    let old = c.nodes.invariant in
-    let fits : c.in-Some.node < length c.nodes.rounds.items =
-    omega (arith, c.in-Some.ensures.known, old.nodes, old.rounds, c.nodes.rounds.ok.0) in
-    let count = get_or_default c.nodes.rounds.items c.in-Some.node c.index_mut.result.now 0 fits in
-    let was = c.index_mut.ensures.value in
-    let left = old.left c.in-Some.node in
-    omega (arith, count, was, left)
-
-pub returns-clause-rounds : goal.returns-clause-rounds
-returns-clause-rounds c n = let left = c.nodes.invariant.left n in omega (arith, left)
