@@ -170,11 +170,13 @@ def names_of(words):
         return ["SarifLog"]
     if words[:1] == ["lint"] and "--message-format" in words:
         return ["CompilerMessage"] if words[words.index("--message-format") + 1] == "json" else []
+    if words[:1] == ["graph"] and "cyclonedx" in words:
+        return ["Bom"]
     if "--json" not in words:
         return []
     if words[0] == "graph" and "--against" in words:
         return ["ChangeLine"]
-    if words[0] == "graph" and {"--allow", "--allow-file"} & {*words}:
+    if words[0] == "graph" and {"--allow", "--allow-file", "--policy"} & {*words}:
         return ["LicenceLine"]
     shown = words[words.index("--show") + 1] if "--show" in words else "packages"
     lines = {"packages": "PackageLine", "edges": "EdgeLine", "targets": "ClassLine", "why": "PathLine",

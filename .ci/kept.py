@@ -17,6 +17,9 @@ HERE = pathlib.Path(__file__).resolve().parent
 # The scripts by which an edit is judged. Those that choose edits and keep judgements decide none.
 SCRIPTS = tuple(f"{name}.py" for name in ("crates", "edits", "functions", "judge", "proved", "trial"))
 
+# How a line begins that is a comment, by the ending of its file.
+COMMENT = {".rt": b"//", ".antt": b"--"}
+
 
 def folder_of_judgements():
     """The folder for judgements of all checkouts."""
@@ -24,9 +27,16 @@ def folder_of_judgements():
     return pathlib.Path(cache) / "nevgrasi" / "judged"
 
 
+def code_of(file):
+    """The bytes of a file without the lines that are comments, which change no judgement."""
+    mark = COMMENT.get(file.suffix)
+    lines = file.read_bytes().splitlines(keepends=True)
+    return b"".join(it for it in lines if mark is None or not it.lstrip().startswith(mark))
+
+
 class Kept:
     """A file for each edit that was judged as it must be, named by the sum of all that it was judged by: the edit, its
-    crate and those below as they lie in a folder of crates, the toolchain and the scripts."""
+    crate and those below as they lie in a folder of crates, without comments, the toolchain and the scripts."""
 
     def __init__(self, crates):
         self.crates, self.folder, self.below = crates, folder_of_judgements(), stands_on()
@@ -42,7 +52,7 @@ class Kept:
             found.update(repr(lines[name]).encode())
             for part in ("src", "specs", "proofs"):
                 for file in sorted(it for it in (self.crates / name / part).glob("**/*") if it.is_file()):
-                    found.update(repr([str(file.relative_to(self.crates)), file.read_bytes()]).encode())
+                    found.update(repr([str(file.relative_to(self.crates)), code_of(file)]).encode())
         return found.hexdigest()
 
     @functools.cache

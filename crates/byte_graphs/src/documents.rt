@@ -8,7 +8,8 @@ ghost use Rattle.byte_graphs.specs.Inside.Telling.{IsTold, IsToldOf};
 use byte_answers::is_too_deep;
 use cargo_metadata::graphs::link;
 use cargo_metadata::{Dependency, Metadata, Node, read};
-use graph_answers::{document_reason, graph_reason, package_lines};
+use graph_lines::package_lines;
+use graph_queries::refused::{document_reason, graph_reason};
 use known_targets::KnownTarget;
 use serde_json::Value;
 use std::alloc::{AllocError, Global};
@@ -94,7 +95,7 @@ fn told_of_json(
     }
 }
 
-/// Returns the result for the text of a document. Fails if memory is refused.
+/// Returns the result for the text of a document. Fails if an allocation fails.
 pub fn told_of(alloc: Global, text: &str, host: Option<KnownTarget>) -> Result<Told, AllocError>
     ensures { IfOk result (λ told. IsTold text.now told) }
 {

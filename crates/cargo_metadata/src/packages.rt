@@ -3,7 +3,7 @@
 ghost use Rattle.std.specs.Prelude.{◌≡◌, MatchResult};
 ghost use Rattle.serde_json.specs.View.{view};
 ghost use Rattle.cargo_metadata.specs.Fields.{IsWrongIn, wanted_of_package};
-ghost use Rattle.cargo_metadata.specs.Packages.{IsPackage, is_macro, has_macro_kind, is_macro_kind};
+ghost use Rattle.cargo_metadata.specs.Packages.{IsPackage, is_private, is_macro, has_macro_kind, is_macro_kind};
 
 use crate::fields::{list_at, text_at, wanted_text};
 use crate::refusals::Wrong;
@@ -16,6 +16,9 @@ pub struct Package<'a> {
     pub name: &'a str,
     pub version: &'a str,
     pub license: Option<&'a str>,
+    pub license_file: Option<&'a str>,
+    /// True if the package can't be published: the list of its registries is empty.
+    pub is_private: bool,
     /// True if one of its targets is a procedural macro.
     pub is_macro: bool,
 }
@@ -29,14 +32,29 @@ pub fn package_of<'a>(value: &'a Value) -> Result<Package<'a>, Wrong>
     let name = wanted_text(value, "name")?;
     let version = wanted_text(value, "version")?;
     let license = text_at(value, "license");
+    let license_file = text_at(value, "license_file");
+    let is_private = is_private(value);
     let is_macro = is_macro(value);
     Ok(Package {
         id,
         name,
         version,
         license,
+        license_file,
+        is_private,
         is_macro,
     })
+}
+
+/// Returns whether a package can't be published: the list of its registries is empty. Without a list, it can be
+/// published in each registry.
+fn is_private(value: &Value) -> bool
+    ensures { result ≡ is_private (view value.now) }
+{
+    match list_at(value, "publish") {
+        None => false,
+        Some(registries) => registries.is_empty(),
+    }
 }
 
 /// Returns whether one of a package's targets is a procedural macro.

@@ -15,8 +15,8 @@ CONSTANT = re.compile(r"^const (\w+): [^=]+ =\s+(.*?);\n\n", re.S | re.M)
 PIECE = re.compile(r'(?P<text>"(?:[^"\\]|\\.)*")|(?P<field>\w+):(?!:)|(?P<open>\{)|(?P<close>\})|&|Given::', re.S)
 
 # What may be given to an argument.
-KINDS = ("Flag", "ShortFlag", "FlagOf", "Value", "ValueWithout", "OneOf", "Number", "Positive", "Values", "Lists",
-         "ShortValues", "Place", "Places", "Needed")
+KINDS = ("Flag", "ShortFlag", "FlagOf", "Value", "ValueWithout", "ValueWith", "OneOf", "Number", "Positive", "Values",
+         "Lists", "ShortValues", "Place", "Places", "Needed")
 
 
 class Argument(NamedTuple):

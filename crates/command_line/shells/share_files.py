@@ -30,6 +30,7 @@ SECTIONS = {
         ("NO_COLOR, CARGO_TERM_COLOR, TERM", "Decide with --color auto whether lint prints colours."),
         ("CARGO_ENCODED_RUSTFLAGS, RUSTFLAGS, CARGO_BUILD_RUSTFLAGS",
          "Flags in which select looks for --cfg, as Cargo does."),
+        ("SOURCE_DATE_EPOCH", "Sets the time in what graph --html and graph --format write, in seconds since 1970."),
     ),
     "FILES": (
         ("Cargo.toml", "The manifests that lint and select read, with those of a workspace's members."),

@@ -26,6 +26,8 @@ enum Given {
     Value(&'static str),
     /// An option with any value, which conflicts with the option of the second name.
     ValueWithout(&'static str, &'static str),
+    /// An option with any value, which needs the option of the second name.
+    ValueWith(&'static str, &'static str),
     /// An option with one of these values.
     OneOf(&'static str, &'static [&'static str]),
     /// An option with a number, and its default.
@@ -70,8 +72,8 @@ const JSON: Argument = Argument {
 const TARGET: Argument = Argument {
     name: "target",
     given: Given::Needed("NAME"),
-    help: "The target: a known one, all for all of them, or with --facts the name of a target specification, without \
-           .json",
+    help: "Select this target: a known one, all for every known one, or with --facts a custom target specification, \
+           named without .json",
 };
 
 const FACTS: Argument = Argument {
@@ -106,37 +108,37 @@ const ADDED_FACTS: Argument = Argument {
 const MANIFEST_PATH: Argument = Argument {
     name: "manifest-path",
     given: Given::Values("PATH"),
-    help: "Add a MANIFEST",
+    help: "Add a manifest, as MANIFEST does",
 };
 
 const PACKAGE: Argument = Argument {
     name: "package",
     given: Given::ShortValues('p', "SPEC"),
-    help: "Only these packages of the workspace: NAME, NAME@VERSION, or a glob in place of NAME",
+    help: "Use only these packages of the workspace: NAME, NAME@VERSION, or a glob in place of NAME",
 };
 
 const EXCLUDE: Argument = Argument {
     name: "exclude",
     given: Given::Values("SPEC|PATH"),
-    help: "Leave out these packages, or manifests in or below this folder, which may be a glob as in .gitignore",
+    help: "Leave out these packages, or the manifests in or below this folder, which may be a glob as in .gitignore",
 };
 
 const NO_WORKSPACE: Argument = Argument {
     name: "no-workspace",
     given: Given::Flag,
-    help: "Only the manifests that are named, without members of their workspaces",
+    help: "Use only the manifests that are named, without members of their workspaces",
 };
 
 const STDIN_FILENAME: Argument = Argument {
     name: "stdin-filename",
     given: Given::Value("PATH"),
-    help: "Read standard input as the manifest at PATH, in its workspace, as an editor has it before it is saved",
+    help: "Read standard input as the manifest at PATH, in its workspace, before an editor has saved it",
 };
 
 const WORKSPACE: Argument = Argument {
     name: "workspace",
     given: Given::Flag,
-    help: "All members of the workspace, also if the manifest is that of a member",
+    help: "Use all members of the workspace, also if the manifest is that of a member",
 };
 
 const LIMIT: Argument = Argument {
@@ -159,12 +161,12 @@ const LINT: Subcommand = Subcommand {
     name: "lint",
     about: "Check the target conditions of Cargo manifests",
     end: "Example: manifest_check lint Cargo.toml\n\n\
-          With the root of a workspace, its members are checked too. The metadata of the package and of the \
-          workspace can have tables `manifest-check` with lists `allow`, `warn` and `deny`; the options override \
+          If the manifest is the root of a workspace, its members are checked too. The metadata of the package and \
+          of the workspace can have tables `manifest-check` with lists `allow`, `warn` and `deny`; the options override \
           them.\n\n\
           Exit status: 0 if there is no error or warning, 1 if there is one, 2 if an argument is invalid or a manifest \
-          cannot be read. What cannot be read is reported in each format. A key with more than 100,000 nested \
-          groups is invalid.",
+          cannot be read. A manifest that cannot be read is reported in every format. A key with more than 100,000 \
+          nested groups is invalid.",
     arguments: &[
         JSON,
         Argument {
@@ -175,7 +177,7 @@ const LINT: Subcommand = Subcommand {
         Argument {
             name: "color",
             given: Given::OneOf("WHEN", &["auto", "always", "never"]),
-            help: "Print levels in colour; by default auto, if standard output is a terminal",
+            help: "Print levels in colour; auto, the default, does so if standard output is a terminal",
         },
         Argument {
             name: "allow",
@@ -206,7 +208,7 @@ const LINT: Subcommand = Subcommand {
         Argument {
             name: "fix",
             given: Given::Flag,
-            help: "Apply suggestions that keep the meaning to the manifests, and print what is left",
+            help: "Apply suggestions that keep the meaning to the manifests, and report what is left",
         },
         Argument {
             name: "unsafe-fixes",
@@ -254,14 +256,14 @@ const SELECT: Subcommand = Subcommand {
     name: "select",
     about: "List the dependencies that a target selects from manifests",
     end: "Example: manifest_check select --target x86_64-pc-windows-msvc Cargo.toml\n\n\
-          With the root of a workspace, the manifests of its members are read too. Features are not resolved: an \
+          If the manifest is the root of a workspace, those of its members are read too. Features are not resolved: an \
           optional dependency is reported as optional. A key with more than 100,000 nested groups is invalid.",
     arguments: &[
         TARGET,
         Argument {
             name: "host",
             given: Given::Value("NAME"),
-            help: "The target for build-dependencies; without it, those under a key are open",
+            help: "Evaluate build-dependencies on this target; without it, those under a key are open",
         },
         FACTS,
         FACTS_OF_ALONE,
@@ -342,7 +344,7 @@ const FACTS_OF_TARGET: Subcommand = Subcommand {
 
 const COMPARE: Subcommand = Subcommand {
     name: "compare",
-    about: "Compare two keys on the known targets, and on all targets that a specification can define",
+    about: "Compare two keys on the known targets, and on every target that a custom specification can define",
     end: "Example: manifest_check compare 'cfg(target_os = \"linux\")' 'cfg(unix)'\n\n\
           A key with more than 100,000 nested groups is invalid.",
     arguments: &[
@@ -350,7 +352,7 @@ const COMPARE: Subcommand = Subcommand {
         Argument {
             name: "budget",
             given: Given::Number("N", BUDGET),
-            help: "How many steps each line may take",
+            help: "Answer undecided for a line after this many steps",
         },
         Argument {
             name: "first",
@@ -369,12 +371,12 @@ const GRAPH: Subcommand = Subcommand {
     name: "graph",
     about: "List the packages of a build, the targets on which they are in it, and why",
     end: "Example: cargo metadata --format-version 1 | manifest_check graph --show why --of libc\n\n\
-          A file is rejected if it lacks dependencies, since it was made with --no-deps, --filter-platform or fewer \
+          A file is rejected if it lacks dependencies because it was made with --no-deps, --filter-platform or fewer \
           features than you select. The features that `cargo metadata` turned on are on, unless you resolve features \
           for a --host, with --resolver or any other option on features.\n\n\
-          Exit status: 0 if no package is reported by --allow or --allow-file, and no change by --fail-on, 1 if one \
-          is, 2 if an argument or the document is invalid. A condition with more than 100,000 nested groups is \
-          invalid.",
+          Exit status: 0 if no package is reported by --allow, --allow-file or --policy, and no change by --fail-on, \
+          1 if one is, 2 if an argument, the policy or the document is invalid. A condition with more than 100,000 \
+          nested groups is invalid.",
     arguments: &[
         Argument {
             name: "metadata",
@@ -384,7 +386,7 @@ const GRAPH: Subcommand = Subcommand {
         Argument {
             name: "target",
             given: Given::Values("NAME"),
-            help: "Only this target, by default all known targets",
+            help: "Select only this target, by default all known targets",
         },
         Argument {
             name: "edges",
@@ -399,7 +401,7 @@ const GRAPH: Subcommand = Subcommand {
         Argument {
             name: "side",
             given: Given::OneOf("SIDE", &["target", "host"]),
-            help: "Only what is built for this side: the target, which is shipped, or the host, which builds it",
+            help: "Select only what is built for this side: the target, which is shipped, or the host, which builds it",
         },
         FACTS_OF,
         Argument {
@@ -415,12 +417,12 @@ const GRAPH: Subcommand = Subcommand {
                     "packages", "edges", "targets", "why", "features", "unified", "all",
                 ],
             ),
-            help: "What to print, by default packages",
+            help: "Print this, by default packages",
         },
         Argument {
             name: "resolver",
             given: Given::OneOf("WHICH", &["1", "2", "3", "edition"]),
-            help: "Resolve features like this resolver of Cargo, or like that of the root package's edition",
+            help: "Resolve features as this resolver of Cargo does, or the one of the root package's edition",
         },
         Argument {
             name: "features",
@@ -440,7 +442,7 @@ const GRAPH: Subcommand = Subcommand {
         Argument {
             name: "of",
             given: Given::Value("NAME"),
-            help: "With `--show why`: the packages of this name",
+            help: "With --show why, explain the packages of this name",
         },
         Argument {
             name: "allow",
@@ -455,7 +457,18 @@ const GRAPH: Subcommand = Subcommand {
         Argument {
             name: "except",
             given: Given::Values("PACKAGE"),
-            help: "Do not report this package: NAME@VERSION",
+            help: "Do not report these packages: NAME, NAME@VERSION or NAME@RANGE; with :LICENCES after it, allow \
+                   these licences for them",
+        },
+        Argument {
+            name: "except-private",
+            given: Given::Flag,
+            help: "Do not report packages with `publish = false`",
+        },
+        Argument {
+            name: "policy",
+            given: Given::Value("FILE"),
+            help: "Audit licences by this policy, a `deny.toml` of cargo-deny",
         },
         Argument {
             name: "against",
@@ -465,18 +478,28 @@ const GRAPH: Subcommand = Subcommand {
         Argument {
             name: "fail-on",
             given: Given::Value("CHANGES"),
-            help: "With --against: exit with status 1 if there is one of these, joined by commas: added, removed, \
+            help: "With --against, exit with status 1 if there is one of these changes, joined by commas: added, removed, \
                    updated, targets, licence, source, features",
         },
         Argument {
             name: "markdown",
             given: Given::Flag,
-            help: "With --against: print a Markdown table",
+            help: "With --against, print a Markdown table",
         },
         Argument {
             name: "html",
             given: Given::Value("FILE"),
-            help: "Also write an HTML page of the packages to this file",
+            help: "Write an HTML page of the packages to this file too",
+        },
+        Argument {
+            name: "format",
+            given: Given::OneOf("FORMAT", &["cyclonedx"]),
+            help: "Print a software bill of materials: a CycloneDX document in JSON",
+        },
+        Argument {
+            name: "lock",
+            given: Given::ValueWith("FILE", "format"),
+            help: "With --format, read the checksums of packages from FILE, a Cargo.lock",
         },
         LIMIT,
         JSON,
@@ -556,6 +579,7 @@ fn to_argument<'a>(alloc: Global, told: &Argument) -> Result<Arg<'a>, AllocError
     let made = Arg::new(alloc, told.name).help(told.help);
     match told.given {
         Given::ValueWithout(_, other) => given_to(made, told).conflicts_with(other),
+        Given::ValueWith(_, needed) => given_to(made, told).requires_arg(needed),
         Given::FlagOf(needed, others) => given_to(made, told)
             .requires_arg(needed)?
             .conflicts_with_all(others),
@@ -571,9 +595,9 @@ fn given_to<'a>(made: Arg<'a>, told: &Argument) -> Arg<'a> {
             .long(told.name)
             .short(letter)
             .action(ArgAction::SetTrue),
-        Given::Value(value) | Given::ValueWithout(value, _) => option(
-            made, told.name, value,
-        ).action(ArgAction::Set),
+        Given::Value(value) | Given::ValueWithout(value, _) | Given::ValueWith(value, _) => {
+            option(made, told.name, value).action(ArgAction::Set)
+        }
         Given::Needed(value) => option(made, told.name, value)
             .required(true)
             .action(ArgAction::Append),

@@ -16,14 +16,15 @@ impl<'a> Asked<'a> {
     }
 
     /// Returns whether `default` is asked of the package of a node.
-    pub fn has_default(&self, node: usize) -> bool {
+    fn has_default(&self, node: usize) -> bool {
         match self.current {
             Some(current) => self.default || current != node,
             None => self.default,
         }
     }
 
-    /// Returns the texts of the features that are asked of the package of a node by their names.
+    /// Returns the texts of the features that are asked of the package of a node by their names, and `default` if that
+    /// is asked.
     pub fn texts(
         &self,
         alloc: Global,
@@ -31,21 +32,22 @@ impl<'a> Asked<'a> {
         node: usize,
     ) -> Result<Vec<&'a str>, AllocError> {
         let mut texts = Vec::new(alloc);
-        let Some(current) = self.current else {
-            for text in self.names {
-                texts.push(text_asked(package, text))?;
-            }
-            return Ok(texts);
-        };
-        if current == node {
-            for text in self.names {
-                texts.push(*text)?;
-            }
-            return Ok(texts);
+        if self.has_default(node) {
+            texts.push("default")?;
         }
-        for (name, feature) in self.of_others {
-            if *name == package {
-                texts.push(*feature)?;
+        match self.current {
+            Some(current) if current != node => {
+                for (name, feature) in self.of_others {
+                    if *name == package {
+                        texts.push(*feature)?;
+                    }
+                }
+            }
+            Some(_) => texts.extend_from_slice(self.names)?,
+            None => {
+                for text in self.names {
+                    texts.push(text_asked(package, text))?;
+                }
             }
         }
         Ok(texts)

@@ -1,24 +1,14 @@
 //! Declared dependencies that are on and have no edge. The document was filtered, or made with too few features.
 
-use crate::linking::{Asked, Names, is_edge_of, name_of, names_of, places_of_ids, toml_name};
+use crate::declaring::{Declarations, Declaring, rows_of};
+use crate::linking::{Asked, toml_name};
 use crate::manifests::{Declared, Manifest};
 use cargo_features::{Claim, Resolved};
-use cargo_metadata::graphs::Linked;
 use cargo_metadata::{Dependency as Edge, Kind, Metadata};
 use package_graphs::Side;
 use serde_json::Value;
 use std::alloc::{AllocError, Global};
 use std::collections::BTreeSet;
-
-/// A document of `cargo metadata`, its graph, and what its packages declare.
-#[derive(Clone, Copy, Drop)]
-pub struct Declaring<'m, 'a> {
-    pub document: &'a Value,
-    pub metadata: &'m Metadata<'a>,
-    pub linked: &'m Linked<'a>,
-    /// In the order of the document's packages.
-    pub manifests: &'m [Manifest<'a>],
-}
 
 /// A declared dependency that has no edge, and the place of the node whose package declares it.
 #[derive(Clone, Copy, Drop)]
@@ -30,19 +20,10 @@ pub struct Lacking<'m, 'a> {
 /// The name of an edge's package, its condition and the number of its kind.
 type Key<'a> = ((&'a str, &'a str), u8);
 
-/// Returns the number of a kind.
-fn number_of(kind: Kind) -> u8 {
-    match kind {
-        Kind::Normal => 0,
-        Kind::Build => 1,
-        Kind::Dev => 2,
-    }
-}
-
 /// Returns the key of the edge of a declared dependency with a condition.
 fn key_of<'a>(declared: &Declared<'a>) -> Key<'a> {
     let condition = declared.condition.unwrap_or("");
-    ((declared.name, condition), number_of(declared.kind))
+    ((declared.name, condition), declared.kind as u8)
 }
 
 /// Returns the dependency that a text in a feature's list turns on: `d` for `dep:d` and `d/f`, none for `d?/f`.
@@ -94,23 +75,6 @@ fn on_in_document<'a>(
     Ok(names)
 }
 
-/// Returns the names of the packages without a library. Cargo gives no edge to a dependency on such a package.
-fn without_library<'a>(
-    alloc: Global,
-    graph: &Declaring<'_, 'a>,
-) -> Result<BTreeSet<&'a str>, AllocError> {
-    let mut names = BTreeSet::new(alloc);
-    for i in 0..graph.manifests.len() {
-        if let (None, Some(package)) = (
-            graph.manifests[i].library,
-            graph.metadata.packages.get(i),
-        ) {
-            let _is_new = names.insert(package.name)?;
-        }
-    }
-    Ok(names)
-}
-
 // ---- a filtered document
 
 /// Returns the condition of an edge, if all its kinds have the same one.
@@ -148,22 +112,10 @@ fn keys_of<'a>(
     node: usize,
 ) -> Result<BTreeSet<Key<'a>>, AllocError> {
     let mut keys = BTreeSet::new(alloc);
-    let (Some(written), Some(unit)) = (
-        graph.metadata.nodes.get(node),
-        graph.linked.packages.get(node),
-    ) else {
-        return Ok(keys);
-    };
-    let mut place: usize = 0;
-    for edge in &written.dependencies {
-        for row in &edge.kinds {
-            if let (Some(linked), Some(condition)) = (unit.dependencies.get(place), row.condition) {
-                if let Some(package) = graph.linked.described.get(linked.to) {
-                    let key = ((package.name, condition), number_of(row.kind));
-                    let _is_new = keys.insert(key)?;
-                }
-            }
-            place = place.saturating_add(1);
+    for row in &rows_of(alloc, graph.metadata, graph.linked, node)? {
+        if let Some(condition) = row.kind.condition {
+            let key = ((graph.name(row.linked.to), condition), row.kind.kind as u8);
+            let _is_new = keys.insert(key)?;
         }
     }
     Ok(keys)
@@ -172,12 +124,12 @@ fn keys_of<'a>(
 /// Dependencies that no filter left out: those under a condition that the filter kept, and those on a package without a
 /// library, which have no edge in a whole document either.
 #[derive(Drop)]
-struct Kept<'a> {
+struct Kept<'m, 'a> {
     conditions: BTreeSet<&'a str>,
-    without_library: BTreeSet<&'a str>,
+    declared: &'m Declarations<'a>,
 }
 
-impl<'a> Kept<'a> {
+impl<'m, 'a> Kept<'m, 'a> {
     /// Returns whether a filter, and nothing else, may have left out a dependency. Only roots have dev-dependencies.
     fn may_lack(&self, declared: &Declared<'a>, is_root: bool) -> bool {
         let Some(condition) = declared.condition else {
@@ -185,7 +137,7 @@ impl<'a> Kept<'a> {
         };
         (is_root || declared.kind != Kind::Dev)
             && !self.conditions.contains(&condition)
-            && !self.without_library.contains(&declared.name)
+            && !self.declared.has_no_library(declared)
     }
 
     /// Returns whether a filter may have left out some dependency that a package declares.
@@ -199,7 +151,7 @@ impl<'a> Kept<'a> {
     }
 
     /// Returns the first dependency of a node that is on and that a filter left out.
-    fn first_of<'m>(
+    fn first_of(
         &self,
         alloc: Global,
         graph: &Declaring<'m, 'a>,
@@ -231,14 +183,12 @@ pub fn first_filtered<'m, 'a>(
     alloc: Global,
     graph: &Declaring<'m, 'a>,
 ) -> Result<Option<Lacking<'m, 'a>>, AllocError> {
-    let ids = places_of_ids(alloc, graph.metadata)?;
     let kept = Kept {
         conditions: kept_conditions(alloc, graph.metadata)?,
-        without_library: without_library(alloc, graph)?,
+        declared: graph.declared,
     };
     for node in 0..graph.metadata.nodes.len() {
-        let place = ids.find(graph.metadata.nodes[node].id);
-        let Some(manifest) = graph.manifests.get(place.unwrap_or(graph.manifests.len())) else {
+        let Some(manifest) = graph.declared.manifest(node) else {
             continue;
         };
         if let Some(declared) = kept.first_of(alloc, graph, node, manifest)? {
@@ -273,56 +223,24 @@ fn on_as_resolved<'a>(
     Ok(names)
 }
 
-/// Returns whether a declared dependency has an edge.
-fn has_edge<'a>(
-    graph: &Declaring<'_, 'a>,
-    names: &Names<'a>,
-    node: usize,
-    declared: &Declared<'a>,
-) -> bool {
-    let (Some(written), Some(unit)) = (
-        graph.metadata.nodes.get(node),
-        graph.linked.packages.get(node),
-    ) else {
-        return false;
-    };
-    let (metadata, manifests) = (graph.metadata, graph.manifests);
-    let mut place: usize = 0;
-    for edge in &written.dependencies {
-        for row in &edge.kinds {
-            if let Some(linked) = unit.dependencies.get(place) {
-                if declared.kind == row.kind
-                    && declared.condition == row.condition
-                    && is_edge_of(metadata, manifests, names, node, linked.to, edge, declared)
-                {
-                    return true;
-                }
-            }
-            place = place.saturating_add(1);
-        }
-    }
-    false
-}
-
 /// Returns the optional dependencies of a node that are on as resolved, and not on in the document.
 fn newly_on<'a>(
     alloc: Global,
     graph: &Declaring<'_, 'a>,
-    names: &Names<'a>,
     node: usize,
     resolved: &Resolved,
     asked: &Asked<'a>,
 ) -> Result<BTreeSet<&'a str>, AllocError> {
     let mut newly = BTreeSet::new(alloc);
     let (Some(manifest), Some(unit)) = (
-        names.manifest(graph.manifests, node),
+        graph.declared.manifest(node),
         graph.linked.packages.get(node),
     ) else {
         return Ok(newly);
     };
     let mut on = on_as_resolved(alloc, resolved, node, manifest)?;
     if asked.concerns(node, unit) {
-        let texts = asked.texts(alloc, name_of(graph.metadata, names, node), node)?;
+        let texts = asked.texts(alloc, graph.name(node), node)?;
         add_turned_on(&texts, &mut on)?;
     }
     let before = on_in_document(alloc, graph.document, node, manifest)?;
@@ -334,6 +252,21 @@ fn newly_on<'a>(
     Ok(newly)
 }
 
+/// Returns whether a declared dependency of a node has an edge.
+fn has_edge<'a>(
+    alloc: Global,
+    graph: &Declaring<'_, 'a>,
+    node: usize,
+    declared: &Declared<'a>,
+) -> Result<bool, AllocError> {
+    for row in &rows_of(alloc, graph.metadata, graph.linked, node)? {
+        if graph.is_of(node, row, declared) {
+            return Ok(true);
+        }
+    }
+    Ok(false)
+}
+
 /// Returns the first dependency that is on by the resolved features, was not on in the document, and has no edge: the
 /// document was made with too few features. It refuses only where memory is refused.
 pub fn first_lacking<'m, 'a>(
@@ -342,18 +275,16 @@ pub fn first_lacking<'m, 'a>(
     resolved: &Resolved,
     asked: &Asked<'a>,
 ) -> Result<Option<Lacking<'m, 'a>>, AllocError> {
-    let names = names_of(alloc, graph.metadata, graph.manifests)?;
-    let without = without_library(alloc, graph)?;
     for node in 0..graph.metadata.nodes.len() {
-        let Some(manifest) = names.manifest(graph.manifests, node) else {
+        let Some(manifest) = graph.declared.manifest(node) else {
             continue;
         };
-        let newly = newly_on(alloc, graph, &names, node, resolved, asked)?;
+        let newly = newly_on(alloc, graph, node, resolved, asked)?;
         for declared in &manifest.dependencies {
             if declared.is_optional
                 && newly.contains(&toml_name(declared))
-                && !without.contains(&declared.name)
-                && !has_edge(graph, &names, node, declared)
+                && !graph.declared.has_no_library(declared)
+                && !has_edge(alloc, graph, node, declared)?
             {
                 return Ok(Some(Lacking { node, declared }));
             }

@@ -3,13 +3,15 @@
 #![tactic(auto)]
 
 mod asked;
+mod declaring;
 mod fields;
 mod lacking;
 mod linking;
 mod manifests;
 mod places;
 
-pub use fields::{Wanted, Wrong};
-pub use lacking::{Declaring, Lacking, first_filtered, first_lacking};
+pub use declaring::{Declarations, Declaring, Row, rows_of};
+pub use fields::{Wanted, Wrong, list_at, text_at};
+pub use lacking::{Lacking, first_filtered, first_lacking};
 pub use linking::{Asked, Described, described_features};
-pub use manifests::{Declared, Feature, InDeclared, InManifest, Manifest, Refusal, read_manifests};
+pub use manifests::{Declared, Feature, InDeclared, InManifest, Manifest, Refusal};

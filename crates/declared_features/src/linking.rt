@@ -1,12 +1,11 @@
 //! The declarations of packages, translated into the input of the feature resolver: names become indexes.
 
 use crate::asked::starter_of;
+use crate::declaring::{Declaring, Row, rows_of};
 use crate::manifests::{Declared, Manifest};
 use crate::places::Places;
 use cargo_features::{Dependency, Member, Package};
-use cargo_metadata::graphs::Linked;
-use cargo_metadata::{Dependency as Edge, Metadata};
-use package_graphs::{Dependency as LinkedEdge, Package as Unit};
+use package_graphs::Package as Unit;
 use std::alloc::{AllocError, Global};
 
 /// The features that are requested of the roots.
@@ -24,15 +23,6 @@ pub struct Asked<'a> {
     pub current: Option<usize>,
     /// The features that are requested of other roots, each after the name of its root.
     pub of_others: &'a [(&'a str, &'a str)],
-}
-
-/// The packages of a graph and their features, by name.
-#[derive(Drop)]
-pub struct Names<'a> {
-    /// For each node, the index of its package among those of the document.
-    packages: Vec<usize>,
-    /// For each node, the indexes of its features by name.
-    features: Vec<Places<'a>>,
 }
 
 /// A declared dependency that is in the graph, with the name that its package gives it.
@@ -53,24 +43,14 @@ pub struct Described {
     pub edges: Vec<Vec<usize>>,
 }
 
-/// Returns whether two names are equal if `-` and `_` are taken as the same character.
-fn are_same(name: &str, other: &str) -> bool {
-    name.len() == other.len()
-        && name.bytes().zip(other.bytes()).all(|(a, b)| {
-            a == b || matches!((a, b), (b'-', b'_') | (b'_', b'-'))
-        })
+/// The features of the packages of a graph, by name.
+#[derive(Drop)]
+struct Names<'a> {
+    /// For each node, the indexes of its features.
+    features: Vec<Places<'a>>,
 }
 
-/// Returns the indexes of the packages by id.
-pub fn places_of_ids<'a>(alloc: Global, metadata: &Metadata<'a>) -> Result<Places<'a>, AllocError> {
-    let mut ids = Places::new(alloc);
-    'packages: for i in 0..metadata.packages.len() {
-        ids.add(metadata.packages[i].id, i)?;
-    }
-    Ok(ids)
-}
-
-/// Returns the indexes of a package's features by name. A package without declarations has none.
+/// Returns the indexes of the features of a package by name. A package without declarations has none.
 fn places_of_features<'a>(
     alloc: Global,
     manifest: Option<&Manifest<'a>>,
@@ -84,81 +64,19 @@ fn places_of_features<'a>(
     Ok(features)
 }
 
-/// Returns the packages and features of a graph by name.
-pub fn names_of<'a>(
-    alloc: Global,
-    metadata: &Metadata<'a>,
-    manifests: &[Manifest<'a>],
-) -> Result<Names<'a>, AllocError> {
-    let ids = places_of_ids(alloc, metadata)?;
-    let mut names = Names {
-        packages: Vec::new(alloc),
-        features: Vec::new(alloc),
-    };
-    for node in &metadata.nodes {
-        let place = ids.find(node.id).unwrap_or(manifests.len());
-        names.packages.push(place)?;
-        names
-            .features
-            .push(places_of_features(alloc, manifests.get(place))?)?;
-    }
-    Ok(names)
-}
-
 impl<'a> Names<'a> {
-    /// Returns the declarations of the package of a node.
-    pub fn manifest<'m>(
-        &self,
-        manifests: &'m [Manifest<'a>],
-        node: usize,
-    ) -> Option<&'m Manifest<'a>> {
-        manifests.get(*self.packages.get(node)?)
+    /// Returns the features of the packages of a graph by name.
+    fn of(alloc: Global, graph: &Declaring<'_, 'a>) -> Result<Names<'a>, AllocError> {
+        let mut features = Vec::new(alloc);
+        for node in 0..graph.metadata.nodes.len() {
+            features.push(places_of_features(alloc, graph.declared.manifest(node))?)?;
+        }
+        Ok(Names { features })
     }
 
     /// Returns the index of a feature of the package of a node.
     fn feature(&self, node: usize, name: &'a str) -> Option<usize> {
         self.features.get(node)?.find(name)
-    }
-}
-
-/// Returns the name of the package of a node, or the empty text if there is none.
-pub fn name_of<'a>(metadata: &Metadata<'a>, names: &Names<'a>, node: usize) -> &'a str {
-    let Some(place) = names.packages.get(node) else {
-        return "";
-    };
-    match metadata.packages.get(*place) {
-        Some(found) => found.name,
-        None => "",
-    }
-}
-
-/// Returns whether an edge belongs to a declared dependency, apart from its kind and condition: it leads to a package
-/// with the declared name, and has the name by which code refers to the dependency. An edge from a package to itself
-/// has the library's name.
-pub fn is_edge_of<'a>(
-    metadata: &Metadata<'a>,
-    manifests: &[Manifest<'a>],
-    names: &Names<'a>,
-    from: usize,
-    to: usize,
-    edge: &Edge<'a>,
-    declared: &Declared<'a>,
-) -> bool {
-    let name = name_of(metadata, names, to);
-    if name != declared.name {
-        return false;
-    }
-    let library = match names.manifest(manifests, to) {
-        Some(manifest) => manifest.library.unwrap_or(name),
-        None => name,
-    };
-    let called = match declared.rename {
-        Some(rename) if from != to => rename,
-        _ => library,
-    };
-    match edge.name {
-        Some(name) => are_same(name, called),
-        None => true,
     }
 }
 
@@ -183,164 +101,149 @@ fn features_asked<'a>(
     Ok(features)
 }
 
-/// Returns the dependency for a declared one and its edge in the graph.
-fn dependency_of<'a>(
-    alloc: Global,
-    names: &Names<'a>,
-    from: usize,
-    edge: &LinkedEdge,
-    declared: &Declared<'a>,
-) -> Result<Dependency, AllocError> {
-    Ok(Dependency {
-        to: edge.to,
-        kind: edge.kind,
-        is_optional: declared.is_optional,
-        holds: edge.holds,
-        features: features_asked(alloc, names, edge.to, declared)?,
-        named: names.feature(from, toml_name(declared)),
-    })
-}
-
 /// Returns the name that a package's manifest gives a dependency.
 pub fn toml_name<'a>(declared: &Declared<'a>) -> &'a str {
     declared.rename.unwrap_or(declared.name)
 }
 
-/// Returns the dependency for a declared one and the linked edge at index `edge`, with its name.
+/// Returns the dependency for a declared one of a node and its edge in the graph, with its name.
 fn named_of<'a>(
     alloc: Global,
     names: &Names<'a>,
-    from: usize,
-    linked: &LinkedEdge,
+    node: usize,
+    row: &Row<'_, 'a>,
     declared: &Declared<'a>,
-    edge: usize,
 ) -> Result<Named<'a>, AllocError> {
+    let name = toml_name(declared);
     Ok(Named {
-        name: toml_name(declared),
-        dependency: dependency_of(alloc, names, from, linked, declared)?,
-        edge,
+        name,
+        dependency: Dependency {
+            to: row.linked.to,
+            kind: row.linked.kind,
+            is_optional: declared.is_optional,
+            holds: row.linked.holds,
+            features: features_asked(alloc, names, row.linked.to, declared)?,
+            named: names.feature(node, name),
+        },
+        edge: row.place,
     })
 }
 
 /// Returns the dependencies that the package of a node declares and that are in the graph.
 fn dependencies_of<'a>(
     alloc: Global,
-    metadata: &Metadata<'a>,
-    manifests: &[Manifest<'a>],
+    graph: &Declaring<'_, 'a>,
     names: &Names<'a>,
     node: usize,
-    unit: &Unit,
 ) -> Result<Vec<Named<'a>>, AllocError> {
     let mut found = Vec::new(alloc);
-    let (Some(manifest), Some(written)) = (
-        names.manifest(manifests, node),
-        metadata.nodes.get(node),
-    ) else {
+    let Some(manifest) = graph.declared.manifest(node) else {
         return Ok(found);
     };
-    let mut place: usize = 0;
-    for edge in &written.dependencies {
-        for row in &edge.kinds {
-            let Some(linked) = unit.dependencies.get(place) else {
-                return Ok(found);
-            };
-            for declared in &manifest.dependencies {
-                if declared.kind == row.kind
-                    && declared.condition == row.condition
-                    && is_edge_of(metadata, manifests, names, node, linked.to, edge, declared)
-                {
-                    found.push(named_of(alloc, names, node, linked, declared, place)?)?;
-                }
+    for row in &rows_of(alloc, graph.metadata, graph.linked, node)? {
+        for declared in &manifest.dependencies {
+            if graph.is_of(node, row, declared) {
+                found.push(named_of(alloc, names, node, row, declared)?)?;
             }
-            place = place.saturating_add(1);
         }
     }
     Ok(found)
 }
 
-/// Appends the members for a listed text that names a feature of a dependency.
-fn push_of<'a>(
-    names: &Names<'a>,
-    found: &[Named<'a>],
-    name: &'a str,
-    feature: &'a str,
-    members: &mut Vec<Member>,
-) -> Result<(), AllocError> {
-    let (name, is_weak) = match name.strip_suffix("?") {
-        Some(name) => (name, true),
-        None => (name, false),
-    };
-    for i in 0..found.len() {
-        let one = &found[i];
-        if one.name != name {
-            continue;
-        }
-        match names.feature(one.dependency.to, feature) {
-            Some(place) if is_weak => members.push(Member::Weak(i, place))?,
-            Some(place) => members.push(Member::Strong(i, place))?,
-            None if is_weak => {}
-            None => members.push(Member::Dependency(i))?,
-        }
-    }
-    Ok(())
+/// The package of a node: the names of features, and the dependencies that are in the graph.
+#[derive(Clone, Copy, Drop)]
+struct Lists<'m, 'a> {
+    names: &'m Names<'a>,
+    found: &'m [Named<'a>],
+    node: usize,
 }
 
-/// Appends the members for a text in the list of a feature.
-fn push_listed<'a>(
-    names: &Names<'a>,
-    found: &[Named<'a>],
-    node: usize,
-    text: &'a str,
-    members: &mut Vec<Member>,
-) -> Result<(), AllocError> {
-    if let Some(name) = text.strip_prefix("dep:") {
-        for i in 0..found.len() {
-            if found[i].name == name {
-                members.push(Member::Dependency(i))?;
+impl<'m, 'a> Lists<'m, 'a> {
+    /// Appends the members for a listed text that names a feature of a dependency.
+    fn push_of(
+        &self,
+        name: &'a str,
+        feature: &'a str,
+        members: &mut Vec<Member>,
+    ) -> Result<(), AllocError> {
+        let (name, is_weak) = match name.strip_suffix("?") {
+            Some(name) => (name, true),
+            None => (name, false),
+        };
+        for i in 0..self.found.len() {
+            let one = &self.found[i];
+            if one.name != name {
+                continue;
+            }
+            match self.names.feature(one.dependency.to, feature) {
+                Some(place) if is_weak => members.push(Member::Weak(i, place))?,
+                Some(place) => members.push(Member::Strong(i, place))?,
+                None if is_weak => {}
+                None => members.push(Member::Dependency(i))?,
             }
         }
-        return Ok(());
+        Ok(())
     }
-    if let Some((name, feature)) = text.split_once('/') {
-        return push_of(names, found, name, feature, members);
-    }
-    if let Some(place) = names.feature(node, text) {
-        members.push(Member::Feature(place))?;
-    }
-    Ok(())
-}
 
-/// Returns the members that a feature of the package of a node lists.
-fn listed_of<'a>(
-    alloc: Global,
-    names: &Names<'a>,
-    found: &[Named<'a>],
-    node: usize,
-    texts: &[&'a str],
-) -> Result<Vec<Member>, AllocError> {
-    let mut members = Vec::new(alloc);
-    for text in texts {
-        push_listed(names, found, node, text, &mut members)?;
-    }
-    Ok(members)
-}
-
-/// Returns the members that each feature of the package of a node lists. A package without declarations has no
-/// features.
-fn features_of<'a>(
-    alloc: Global,
-    names: &Names<'a>,
-    found: &[Named<'a>],
-    node: usize,
-    manifest: Option<&Manifest<'a>>,
-) -> Result<Vec<Vec<Member>>, AllocError> {
-    let mut features = Vec::new(alloc);
-    if let Some(manifest) = manifest {
-        for feature in &manifest.features {
-            features.push(listed_of(alloc, names, found, node, &feature.lists)?)?;
+    /// Appends the members for a text in the list of a feature.
+    fn push_listed(&self, text: &'a str, members: &mut Vec<Member>) -> Result<(), AllocError> {
+        if let Some(name) = text.strip_prefix("dep:") {
+            for i in 0..self.found.len() {
+                if self.found[i].name == name {
+                    members.push(Member::Dependency(i))?;
+                }
+            }
+            return Ok(());
         }
+        if let Some((name, feature)) = text.split_once('/') {
+            return self.push_of(name, feature, members);
+        }
+        if let Some(place) = self.names.feature(self.node, text) {
+            members.push(Member::Feature(place))?;
+        }
+        Ok(())
     }
-    Ok(features)
+
+    /// Returns the members for the texts in the list of a feature.
+    fn members(&self, alloc: Global, texts: &[&'a str]) -> Result<Vec<Member>, AllocError> {
+        let mut members = Vec::new(alloc);
+        for text in texts {
+            self.push_listed(text, &mut members)?;
+        }
+        Ok(members)
+    }
+
+    /// Returns the members for the features that are requested of a root with this many features.
+    fn members_asked(
+        &self,
+        alloc: Global,
+        package: &str,
+        count: usize,
+        asked: &Asked<'a>,
+    ) -> Result<Vec<Member>, AllocError> {
+        let mut members = self.members(alloc, &asked.texts(alloc, package, self.node)?)?;
+        if asked.all {
+            for i in 0..count {
+                members.push(Member::Feature(i))?;
+            }
+        }
+        Ok(members)
+    }
+
+    /// Returns what the features of a package list. A package without declarations has no features.
+    fn of_features(
+        &self,
+        alloc: Global,
+        manifest: Option<&Manifest<'a>>,
+    ) -> Result<Vec<Vec<Member>>, AllocError> {
+        let mut features = Vec::new(alloc);
+        if let Some(manifest) = manifest {
+            for feature in &manifest.features {
+                features.push(self.members(alloc, &feature.lists)?)?;
+            }
+        }
+        Ok(features)
+    }
 }
 
 /// Returns a feature that is requested of a root, without the root's own name before it.
@@ -349,32 +252,6 @@ pub fn text_asked<'a>(root: &str, text: &'a str) -> &'a str {
         Some((first, feature)) if first == root => feature,
         _ => text,
     }
-}
-
-/// Returns the features that are requested of a root, as the list of a feature.
-fn asked_of<'a>(
-    alloc: Global,
-    metadata: &Metadata<'a>,
-    names: &Names<'a>,
-    found: &[Named<'a>],
-    node: usize,
-    count: usize,
-    asked: &Asked<'a>,
-) -> Result<Vec<Member>, AllocError> {
-    let mut members = Vec::new(alloc);
-    if asked.all {
-        for i in 0..count {
-            members.push(Member::Feature(i))?;
-        }
-    }
-    if asked.has_default(node) {
-        push_listed(names, found, node, "default", &mut members)?;
-    }
-    let texts = asked.texts(alloc, name_of(metadata, names, node), node)?;
-    for text in &texts {
-        push_listed(names, found, node, text, &mut members)?;
-    }
-    Ok(members)
 }
 
 /// Returns for each dependency its index among those of the linked package.
@@ -418,60 +295,44 @@ fn package_of(
 /// Returns what the features of the package of a node list. The last feature of a root lists what is requested of it.
 fn lists_of<'a>(
     alloc: Global,
-    metadata: &Metadata<'a>,
-    manifests: &[Manifest<'a>],
-    names: &Names<'a>,
-    found: &[Named<'a>],
-    node: usize,
-    asked: Option<&Asked<'a>>,
-) -> Result<Vec<Vec<Member>>, AllocError> {
-    let mut features = features_of(alloc, names, found, node, names.manifest(manifests, node))?;
-    if let Some(asked) = asked {
-        let count = features.len();
-        features.push(asked_of(alloc, metadata, names, found, node, count, asked)?)?;
-    }
-    Ok(features)
-}
-
-/// Returns the package of a node, and for each of its dependencies the index among those of the linked package.
-fn described_of<'a>(
-    alloc: Global,
-    metadata: &Metadata<'a>,
-    manifests: &[Manifest<'a>],
-    names: &Names<'a>,
-    node: usize,
+    graph: &Declaring<'_, 'a>,
+    lists: &Lists<'_, 'a>,
     unit: &Unit,
     asked: &Asked<'a>,
-) -> Result<(Package, Vec<usize>), AllocError> {
-    let asked = if asked.concerns(node, unit) {
-        Some(asked)
-    } else {
-        None
-    };
-    let found = dependencies_of(alloc, metadata, manifests, names, node, unit)?;
-    let features = lists_of(alloc, metadata, manifests, names, &found, node, asked)?;
-    let edges = edges_of(alloc, &found)?;
-    Ok((package_of(alloc, unit, found, features)?, edges))
+) -> Result<Vec<Vec<Member>>, AllocError> {
+    let mut features = lists.of_features(alloc, graph.declared.manifest(lists.node))?;
+    if asked.concerns(lists.node, unit) {
+        let package = graph.name(lists.node);
+        let count = features.len();
+        features.push(lists.members_asked(alloc, package, count, asked)?)?;
+    }
+    Ok(features)
 }
 
 /// Returns the packages of a graph, as input of the feature resolver. Fails only if memory is refused.
 pub fn described_features<'a>(
     alloc: Global,
-    metadata: &Metadata<'a>,
-    manifests: &[Manifest<'a>],
-    linked: &Linked<'a>,
+    graph: &Declaring<'_, 'a>,
     asked: &Asked<'a>,
 ) -> Result<Described, AllocError> {
-    let names = names_of(alloc, metadata, manifests)?;
+    let names = Names::of(alloc, graph)?;
     let mut described = Described {
         packages: Vec::new(alloc),
         edges: Vec::new(alloc),
     };
-    for i in 0..linked.packages.len() {
-        let unit = &linked.packages[i];
-        let (package, edges) = described_of(alloc, metadata, manifests, &names, i, unit, asked)?;
-        described.packages.push(package)?;
-        described.edges.push(edges)?;
+    for node in 0..graph.linked.packages.len() {
+        let unit = &graph.linked.packages[node];
+        let found = dependencies_of(alloc, graph, &names, node)?;
+        let lists = Lists {
+            names: &names,
+            found: &found,
+            node,
+        };
+        let features = lists_of(alloc, graph, &lists, unit, asked)?;
+        described.edges.push(edges_of(alloc, &found)?)?;
+        described
+            .packages
+            .push(package_of(alloc, unit, found, features)?)?;
     }
     if let Some(current) = asked.current {
         if let Some(package) = starter_of(alloc, &described.packages, current)? {

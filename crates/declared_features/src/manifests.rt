@@ -37,7 +37,6 @@ pub struct Feature<'a> {
 /// The declarations of a package.
 #[derive(Drop)]
 pub struct Manifest<'a> {
-    pub edition: Option<&'a str>,
     /// The name of the package's library, if it has one.
     pub library: Option<&'a str>,
     pub dependencies: Vec<Declared<'a>>,
@@ -227,7 +226,6 @@ fn manifest_of<'a>(alloc: Global, value: &'a Value) -> Result<Manifest<'a>, InMa
         Err(error) => return Err(InManifest::Memory(error)),
     };
     Ok(Manifest {
-        edition: text_at(value, "edition"),
         library: library_of(value),
         dependencies,
         features,

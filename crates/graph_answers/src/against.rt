@@ -1,25 +1,22 @@
 //! `--against`: what has changed since an older output of `cargo metadata`.
 
-use crate::asked::{Asked, unusable_words};
-use crate::differences::difference_of;
-use crate::graph::Graph;
-use crate::lines::{push, push_comma, shown, shown_targets};
-use crate::pairs::{Pair, pairs_of};
-use crate::resolving::Features;
-use crate::sides::is_selected;
 use cargo_metadata::Package as Described;
-use key_answers::answer::{Answer, Refusal, Status};
+use graph_queries::asked::Asked;
+use graph_queries::differences::difference_of;
+use graph_queries::graph::{Graph, source_of};
+use graph_queries::lines::{push, push_comma, shown, shown_targets};
+use graph_queries::pairs::{Pair, pairs_of};
+use key_answers::answer::{Answer, Refusal, Status, unusable_words};
 use key_answers::json_lines;
 use key_answers::printing::shown_name;
 use key_answers::targets::At;
 use known_targets::TargetSet;
-use package_graphs::Side;
 use serde::Serialize;
 use std::alloc::{AllocError, Global};
 
 /// A line of `graph --against --json`: a package that is new, gone or changed.
 #[derive(Drop, Serialize)]
-struct ChangeLine<'d, 'a> {
+struct ChangeLine<'c, 'd, 'a> {
     /// One of `added`, `removed`, `updated` and `changed`.
     change: &'static str,
     name: &'d str,
@@ -45,69 +42,54 @@ struct ChangeLine<'d, 'a> {
     old_source: Option<&'d str>,
     /// If features are resolved: those that are on, and were not before.
     #[serde(skip_serializing_if = "Option::is_none")]
-    added_features: Option<Vec<&'d str>>,
+    added_features: Option<&'c [&'d str]>,
     /// If features are resolved: those that were on before, and are not.
     #[serde(skip_serializing_if = "Option::is_none")]
-    removed_features: Option<Vec<&'d str>>,
+    removed_features: Option<&'c [&'d str]>,
 }
 
-/// The kinds of changes that make the run fail, by `--fail-on`.
-#[derive(Clone, Copy, Drop)]
-pub struct Failing {
-    added: bool,
-    removed: bool,
-    updated: bool,
-    targets: bool,
-    licence: bool,
-    source: bool,
-    features: bool,
-}
+/// The kinds of changes, as `--fail-on` names them. The first two mean packages that only one answer has, and the
+/// others packages that both have.
+const CHANGES: [&str; 7] = [
+    "added", "removed", "updated", "targets", "licence", "source", "features",
+];
+
+/// For each of `CHANGES`, whether it is meant.
+type ChangeKinds = [bool; 7];
 
 /// Returns the message for a word that names no kind of change.
-fn no_change(alloc: Global, word: &str) -> Result<String, AllocError> {
+fn no_kind(alloc: Global, word: &str) -> Result<String, AllocError> {
     let shown = shown_name(alloc, word)?;
     let kinds = "added, removed, updated, targets, licence, source and features";
     format!(in alloc; "--fail-on names {kinds}, joined by commas, and not {shown}")
 }
 
-impl Failing {
-    /// Parses the kinds of changes in `--fail-on`. Without that option, no change makes the run fail.
-    pub fn of(alloc: Global, words: Option<&str>) -> Result<Failing, Refusal> {
-        let mut failing = Failing {
-            added: false,
-            removed: false,
-            updated: false,
-            targets: false,
-            licence: false,
-            source: false,
-            features: false,
-        };
-        let Some(words) = words else {
-            return Ok(failing);
-        };
-        for word in words.split(',') {
-            if !failing.add(word) {
-                let text = no_change(alloc, word)?;
-                return Err(unusable_words(alloc, text.as_str()));
-            }
+/// Returns the index of a word in `CHANGES`.
+fn place_of(word: &str) -> Option<usize> {
+    for i in 0..CHANGES.len() {
+        if CHANGES[i] == word {
+            return Some(i);
         }
-        Ok(failing)
     }
+    None
+}
 
-    /// Adds a kind of changes. Returns whether the word names one.
-    fn add(&mut self, word: &str) -> bool {
-        match word {
-            "added" => self.added = true,
-            "removed" => self.removed = true,
-            "updated" => self.updated = true,
-            "targets" => self.targets = true,
-            "licence" => self.licence = true,
-            "source" => self.source = true,
-            "features" => self.features = true,
-            _ => return false,
+/// Parses the kinds of changes that make the run fail. Without `--fail-on`, none does.
+pub fn kinds_of(alloc: Global, words: Option<&str>) -> Result<ChangeKinds, Refusal> {
+    let mut kinds = [false; 7];
+    let Some(words) = words else {
+        return Ok(kinds);
+    };
+    for word in words.split(',') {
+        let Some(place) = place_of(word) else {
+            let text = no_kind(alloc, word)?;
+            return Err(unusable_words(alloc, text.as_str()));
+        };
+        if let Some(kind) = kinds.get_mut(place) {
+            *kind = true;
         }
-        true
     }
+    Ok(kinds)
 }
 
 /// A package in one of the answers.
@@ -121,44 +103,13 @@ struct Present<'d> {
     features: Vec<&'d str>,
 }
 
-/// Returns the registry or repository in the id of a package, or `None` if the package is in a folder.
-fn source_of<'d>(described: &Described<'d>) -> Option<&'d str> {
-    let (source, _) = described.id.split_once('#')?;
-    if source.starts_with("path+") {
+/// Returns the registry or repository of a package, or `None` if the package is in a folder.
+fn registry_of<'d>(described: &Described<'d>) -> Option<&'d str> {
+    let source = source_of(described.id);
+    if source == described.id || source.starts_with("path+") {
         return None;
     }
     Some(source)
-}
-
-/// Returns whether a feature is on for a selected target and side.
-fn is_on(features: &Features<'_>, index: usize, feature: usize, asked: &Asked<'_>) -> bool {
-    for side in [Side::Target, Side::Host] {
-        let on = features.resolved.with_feature(index, side, feature);
-        if is_selected(asked.side, side) && !on.intersection(asked.targets).is_empty() {
-            return true;
-        }
-    }
-    false
-}
-
-/// Returns the features of a package that are on for a selected target and side.
-fn features_on<'d>(
-    alloc: Global,
-    graph: &Graph<'d>,
-    index: usize,
-    asked: &Asked<'_>,
-) -> Result<Vec<&'d str>, AllocError> {
-    let mut found = Vec::new(alloc);
-    let Some(features) = &graph.features else {
-        return Ok(found);
-    };
-    let names = features.names(alloc, index)?;
-    for i in 0..names.len() {
-        if is_on(features, index, i, asked) {
-            found.push(names[i])?;
-        }
-    }
-    Ok(found)
 }
 
 /// Returns a package as an answer has it, if it is in it.
@@ -177,9 +128,9 @@ fn present_in<'d>(
     Ok(Some(Present {
         version: described.version,
         license: described.license,
-        source: source_of(described),
+        source: registry_of(described),
         at: graph.at(index, asked),
-        features: features_on(alloc, graph, index, asked)?,
+        features: graph.features_on(alloc, index, asked)?,
     }))
 }
 
@@ -211,6 +162,8 @@ fn without<'d>(
 /// A change of a package, with what differs.
 #[derive(Drop)]
 struct Change<'d> {
+    /// The word for the change.
+    word: &'static str,
     name: &'d str,
     old: Option<Present<'d>>,
     new: Option<Present<'d>>,
@@ -248,6 +201,7 @@ impl<'d> Change<'d> {
         let added_features = without(alloc, features_of(&new), features_of(&old))?;
         let removed_features = without(alloc, features_of(&old), features_of(&new))?;
         Ok(Change {
+            word: "",
             name,
             old,
             new,
@@ -258,70 +212,46 @@ impl<'d> Change<'d> {
         })
     }
 
-    /// Returns whether the package is in both answers, with different versions.
-    fn is_update(&self) -> bool {
-        match (&self.old, &self.new) {
-            (Some(old), Some(new)) => old.version != new.version,
-            _ => false,
+    /// Returns for each of `CHANGES` whether the change is of it.
+    fn kinds(&self) -> ChangeKinds {
+        let (Some(old), Some(new)) = (&self.old, &self.new) else {
+            let is_new = self.old.is_none();
+            return [is_new, !is_new, false, false, false, false, false];
+        };
+        [
+            false,
+            false,
+            old.version != new.version,
+            !self.gained.is_empty() || !self.lost.is_empty(),
+            old.license != new.license,
+            old.source != new.source,
+            !self.added_features.is_empty() || !self.removed_features.is_empty(),
+        ]
+    }
+}
+
+/// Returns the word for a change of these kinds, or `None` if nothing has changed.
+fn word_of(kinds: &ChangeKinds) -> Option<&'static str> {
+    for (kind, word) in kinds.iter().zip(["added", "removed", "updated"]) {
+        if *kind {
+            return Some(word);
         }
     }
+    if kinds.contains(&true) {
+        Some("changed")
+    } else {
+        None
+    }
+}
 
-    /// Returns whether the licence is another one than before.
-    fn changes_licence(&self) -> bool {
-        match (&self.old, &self.new) {
-            (Some(old), Some(new)) => old.license != new.license,
-            _ => false,
+/// Returns whether some kind is in both.
+fn have_common(kinds: &ChangeKinds, others: &ChangeKinds) -> bool {
+    for (kind, other) in kinds.iter().zip(others) {
+        if *kind && *other {
+            return true;
         }
     }
-
-    /// Returns whether the source is another one than before.
-    fn changes_source(&self) -> bool {
-        match (&self.old, &self.new) {
-            (Some(old), Some(new)) => old.source != new.source,
-            _ => false,
-        }
-    }
-
-    /// Returns whether the targets are others than before, for a package in both answers.
-    fn changes_targets(&self) -> bool {
-        let are_same = self.gained.is_empty() && self.lost.is_empty();
-        self.old.is_some() && self.new.is_some() && !are_same
-    }
-
-    /// Returns whether the features are others than before, for a package in both answers.
-    fn changes_features(&self) -> bool {
-        let are_same = self.added_features.is_empty() && self.removed_features.is_empty();
-        self.old.is_some() && self.new.is_some() && !are_same
-    }
-
-    /// Returns the kind of the change, or `None` if there is none.
-    fn word(&self) -> Option<&'static str> {
-        if self.old.is_none() {
-            return Some("added");
-        }
-        if self.new.is_none() {
-            return Some("removed");
-        }
-        if self.is_update() {
-            return Some("updated");
-        }
-        let is_changed = self.changes_targets()
-            || self.changes_licence()
-            || self.changes_source()
-            || self.changes_features();
-        if is_changed { Some("changed") } else { None }
-    }
-
-    /// Returns whether the change makes the run fail.
-    fn fails(&self, failing: Failing) -> bool {
-        failing.added && self.old.is_none()
-            || failing.removed && self.new.is_none()
-            || failing.updated && self.is_update()
-            || failing.targets && self.changes_targets()
-            || failing.licence && self.changes_licence()
-            || failing.source && self.changes_source()
-            || failing.features && self.changes_features()
-    }
+    false
 }
 
 /// A change as text.
@@ -395,10 +325,10 @@ fn notes_on(alloc: Global, change: &Change<'_>, asked: &Asked<'_>) -> Result<Str
     };
     push_targets(&mut notes, alloc, "new on", change.gained, asked)?;
     push_targets(&mut notes, alloc, "gone from", change.lost, asked)?;
-    if change.changes_licence() {
+    if old.license != new.license {
         push_texts(&mut notes, alloc, "licence", old.license, new.license)?;
     }
-    if change.changes_source() {
+    if old.source != new.source {
         push_texts(&mut notes, alloc, "source", old.source, new.source)?;
     }
     push_features(&mut notes, alloc, '+', &change.added_features)?;
@@ -424,18 +354,13 @@ fn package_of(alloc: Global, change: &Change<'_>) -> Result<String, AllocError> 
 }
 
 /// Returns a change as text.
-fn row_of(
-    alloc: Global,
-    word: &'static str,
-    change: &Change<'_>,
-    asked: &Asked<'_>,
-) -> Result<Row, AllocError> {
+fn row_of(alloc: Global, change: &Change<'_>, asked: &Asked<'_>) -> Result<Row, AllocError> {
     let targets = match &change.new {
         Some(new) => new.at,
         None => change.lost,
     };
     Ok(Row {
-        word,
+        word: change.word,
         package: package_of(alloc, change)?,
         targets: shown_targets(alloc, targets, asked)?,
         notes: notes_on(alloc, change, asked)?,
@@ -477,32 +402,19 @@ fn push_row(text: &mut String, row: &Row) -> Result<(), AllocError> {
     push(text, "\n")
 }
 
-/// Returns the features of a change for JSON, if features are resolved.
-fn features_for<'d>(
-    alloc: Global,
-    graph: &Graph<'_>,
-    names: &[&'d str],
-) -> Result<Option<Vec<&'d str>>, AllocError> {
-    if graph.features.is_none() {
-        return Ok(None);
-    }
-    Ok(Some(without(alloc, names, &[])?))
-}
-
 /// Appends a change as a line of JSON.
 fn push_object(
     text: &mut String,
     alloc: Global,
-    graph: &Graph<'_>,
-    word: &'static str,
     change: &Change<'_>,
+    has_features: bool,
     asked: &Asked<'_>,
 ) -> Result<(), AllocError> {
     let at = targets_of(&change.new);
     let old = change.old.as_ref();
     let new = change.new.as_ref();
-    let line = ChangeLine {
-        change: word,
+    let mut line = ChangeLine {
+        change: change.word,
         name: change.name,
         version: new.map(|it| it.version),
         old_version: old.map(|it| it.version),
@@ -514,9 +426,13 @@ fn push_object(
         old_license: old.and_then(|it| it.license),
         source: new.and_then(|it| it.source),
         old_source: old.and_then(|it| it.source),
-        added_features: features_for(alloc, graph, &change.added_features)?,
-        removed_features: features_for(alloc, graph, &change.removed_features)?,
+        added_features: None,
+        removed_features: None,
     };
+    if has_features {
+        line.added_features = Some(&change.added_features);
+        line.removed_features = Some(&change.removed_features);
+    }
     json_lines::push_spaced_line(text, alloc, &line)
 }
 
@@ -547,39 +463,51 @@ fn push_count(text: &mut String, alloc: Global, count: usize) -> Result<(), Allo
     push(text, line.as_str())
 }
 
+/// Appends a change in the selected format.
+fn push_change(
+    text: &mut String,
+    alloc: Global,
+    change: &Change<'_>,
+    has_features: bool,
+    asked: &Asked<'_>,
+) -> Result<(), AllocError> {
+    if asked.json {
+        return push_object(text, alloc, change, has_features, asked);
+    }
+    let row = row_of(alloc, change, asked)?;
+    if !asked.markdown {
+        return push_line(text, alloc, &row);
+    }
+    if text.is_empty() {
+        push(text, HEAD)?;
+    }
+    push_row(text, &row)
+}
+
 /// Returns the output of `--against`: each package that is new, gone or changed, sorted by name and version. The status
-/// says whether there is a change that `failing` names.
+/// says whether there is a change of one of the kinds in `failing`.
 pub fn show_changes<'d>(
     alloc: Global,
     old: &Graph<'d>,
     new: &Graph<'d>,
     asked: &Asked<'_>,
-    failing: Failing,
+    failing: ChangeKinds,
 ) -> Result<Answer, AllocError> {
     let mut answer = Answer::of(alloc, String::new(alloc), Status::Fine);
+    let has_features = new.features.is_some();
     let mut count: usize = 0;
     for pair in &pairs_of(alloc, old, new, asked)? {
-        let change = change_of(alloc, old, new, pair, asked)?;
-        let Some(word) = change.word() else {
+        let mut change = change_of(alloc, old, new, pair, asked)?;
+        let kinds = change.kinds();
+        let Some(word) = word_of(&kinds) else {
             continue;
         };
         count = count.saturating_add(1);
-        if change.fails(failing) {
+        if have_common(&kinds, &failing) {
             answer.raise(Status::Found);
         }
-        if asked.json {
-            push_object(&mut answer.output, alloc, new, word, &change, asked)?;
-            continue;
-        }
-        let row = row_of(alloc, word, &change, asked)?;
-        if asked.markdown {
-            push_row(&mut answer.output, &row)?;
-        } else {
-            push_line(&mut answer.output, alloc, &row)?;
-        }
-    }
-    if asked.markdown && count > 0 {
-        answer.output.insert_str(0, HEAD)?;
+        change.word = word;
+        push_change(&mut answer.output, alloc, &change, has_features, asked)?;
     }
     if !asked.json {
         push_count(&mut answer.errors, alloc, count)?;

@@ -1,11 +1,9 @@
 //! Warnings about identifiers that are not in SPDX's licence list, and notes about deprecated ones.
 
 use crate::lines::push;
-use key_answers::printing::shown_name;
-use known_licences::{
-    LIST_VERSION, exception, is_deprecated, licence, nearest_exception, nearest_licence,
-};
-use spdx_expressions::{Licence, Part};
+use cargo_platform::shown_start;
+use licence_policies::{deprecated_message, is_listed, unlisted_messages};
+use spdx_expressions::{Licence, LicenceExpression, Part};
 use std::alloc::{AllocError, Global};
 
 /// Where a licence is.
@@ -30,28 +28,28 @@ impl<'a> Place<'a> {
     }
 }
 
-/// Returns whether an identifier names a licence that a document describes, and not one of a list.
-fn is_reference(id: &str) -> bool {
-    id.starts_with("LicenseRef-") || id.starts_with("DocumentRef-")
+/// Returns whether all licences of an expression are in SPDX's licence list, or described by a document.
+pub fn are_listed(parts: &[Part]) -> bool {
+    for part in parts {
+        if let Part::Licence(of) = part {
+            if !is_listed(of) {
+                return false;
+            }
+        }
+    }
+    true
 }
 
-/// Appends the warning that the list has no such licence or exception, with the one that may be meant.
-fn push_unknown(
+/// Appends a message of this level.
+fn push_message(
     text: &mut String,
     alloc: Global,
     place: Place<'_>,
-    id: &str,
-    meant: Option<&'static str>,
+    level: &str,
+    message: &str,
 ) -> Result<(), AllocError> {
-    let shown = shown_name(alloc, id)?;
-    let help = match meant {
-        Some(name) => format!(in alloc; "; did you mean `{name}`?")?,
-        None => String::new(alloc),
-    };
-    let start = place.start(alloc, "warning")?;
-    let line = format!(in alloc;
-        "{start}`{shown}` is not in SPDX's licence list {LIST_VERSION}{help}\n"
-    )?;
+    let start = place.start(alloc, level)?;
+    let line = format!(in alloc; "{start}{message}\n")?;
     push(text, line.as_str())
 }
 
@@ -62,44 +60,65 @@ fn push_unlisted(
     place: Place<'_>,
     of: &Licence,
 ) -> Result<(), AllocError> {
-    let id = of.id.as_str();
-    if !is_reference(id) && licence(id).is_none() {
-        push_unknown(text, alloc, place, id, nearest_licence(alloc, id)?)?;
-    }
-    let Some(name) = &of.exception else {
-        return Ok(());
-    };
-    let name = name.as_str();
-    if exception(name).is_none() {
-        push_unknown(text, alloc, place, name, nearest_exception(alloc, name)?)?;
+    for message in &unlisted_messages(alloc, of)? {
+        push_message(text, alloc, place, "warning", message.as_str())?;
     }
     Ok(())
 }
 
-/// Appends a note if the identifier of a licence is deprecated, with the current one if that has the same name with
-/// `-only` or `-or-later`.
+/// Appends a note if the identifier of a licence is deprecated.
 fn push_note(
     text: &mut String,
     alloc: Global,
     place: Place<'_>,
     of: &Licence,
 ) -> Result<(), AllocError> {
-    let id = of.id.as_str();
-    if !is_deprecated(id) {
+    match deprecated_message(alloc, of)? {
+        Some(message) => push_message(text, alloc, place, "note", message.as_str()),
+        None => Ok(()),
+    }
+}
+
+/// Appends the messages about the first licence of an expression that has one: notes on deprecated identifiers if
+/// `notes`, and else warnings about those that are not in SPDX's licence list.
+fn push_first(
+    text: &mut String,
+    alloc: Global,
+    place: Place<'_>,
+    parts: &[Part],
+    notes: bool,
+) -> Result<(), AllocError> {
+    let before = text.len();
+    for part in parts {
+        if let Part::Licence(of) = part {
+            if notes {
+                push_note(text, alloc, place, of)?;
+            } else {
+                push_unlisted(text, alloc, place, of)?;
+            }
+        }
+        if text.len() > before {
+            break;
+        }
+    }
+    Ok(())
+}
+
+/// Appends a note if the text of an expression has a `/`.
+fn push_slash(
+    text: &mut String,
+    alloc: Global,
+    place: Place<'_>,
+    license: &str,
+    expression: &LicenceExpression,
+) -> Result<(), AllocError> {
+    if !license.contains('/') {
         return Ok(());
     }
-    let form = if of.or_later { "-or-later" } else { "-only" };
-    let current = format!(in alloc; "{id}{form}")?;
-    let help = match licence(current.as_str()) {
-        Some(name) => format!(in alloc; "; use `{name}`")?,
-        None => String::new(alloc),
-    };
-    let shown = shown_name(alloc, id)?;
-    let start = place.start(alloc, "note")?;
-    let line = format!(in alloc;
-        "{start}`{shown}` is deprecated in SPDX's licence list {LIST_VERSION}{help}\n"
-    )?;
-    push(text, line.as_str())
+    let expression = format!(in alloc; "{expression}")?;
+    let shown = shown_start(alloc, expression.as_str())?;
+    let message = format!(in alloc; "`/` is deprecated in licences; write `{shown}`")?;
+    push_message(text, alloc, place, "note", message.as_str())
 }
 
 /// Messages about the identifiers of licences. There are at most `MOST`, since a search for similar identifiers takes
@@ -144,29 +163,28 @@ impl Messages {
         Ok(())
     }
 
-    /// Adds the warnings about the first licence of an expression that has one.
-    pub fn add_first(
+    /// Adds the messages about the licence of a package: the warnings about the first of its licences that has one. If
+    /// `license`, the text, is given, adds the note on the first licence that is deprecated too, and one on a `/`.
+    pub fn add_package(
         &mut self,
         alloc: Global,
-        place: Place<'_>,
-        parts: &[Part],
+        name: &str,
+        license: Option<&str>,
+        expression: &LicenceExpression,
     ) -> Result<(), AllocError> {
         if self.count >= MOST {
             return Ok(());
         }
+        let place = Place::Package(name);
         let before = self.text.len();
-        for part in parts {
-            if let Part::Licence(of) = part {
-                push_unlisted(&mut self.text, alloc, place, of)?;
-            }
-            if self.text.len() > before {
-                break;
-            }
+        push_first(&mut self.text, alloc, place, expression.parts(), false)?;
+        if let Some(license) = license {
+            push_first(&mut self.text, alloc, place, expression.parts(), true)?;
+            push_slash(&mut self.text, alloc, place, license, expression)?;
         }
         self.count_from(before);
         Ok(())
     }
-
     /// Counts a licence if the text was `before` bytes long and is longer now.
     fn count_from(&mut self, before: usize) {
         if self.text.len() > before {

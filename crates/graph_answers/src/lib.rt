@@ -1,36 +1,23 @@
-//! The output of `graph`: packages, dependencies, classes of targets, dependency paths, resolved features, licence
-//! audits, and an HTML page.
+//! The reports of `graph` on a whole graph: audits of licences, what changed since an older answer, bills of
+//! materials, and an HTML page.
 #![tactic(auto)]
 
 mod against;
-mod all;
-pub mod asked;
-mod conditions;
-mod current;
+pub mod bill_of_materials;
+mod components;
 mod dates;
-mod differences;
-mod edges;
+mod excluded;
 mod faults;
-mod features;
-mod graph;
-mod groups;
 mod identifiers;
-mod incomplete;
+mod licence_report;
 mod licences;
-mod lines;
-mod origins;
-mod packages;
-pub mod page;
-mod pairs;
-mod reasons;
-mod refused;
-mod resolving;
-mod selected;
-mod sides;
-mod targets;
-mod unified;
-mod unsupported;
-mod why;
+mod page;
+mod policies;
+mod unused;
 
-pub use graph::{Report, package_lines, report_on};
-pub use refused::{document_reason, graph_reason};
+pub use against::{kinds_of, show_changes};
+pub use excluded::exclude;
+use graph_queries::{asked, graph, lines, packages};
+pub use licences::{Audit, reported_in, show_licences};
+pub use page::page_of;
+pub use policies::{AuditPolicy, GivenPolicy, GraphNames, policy_of};

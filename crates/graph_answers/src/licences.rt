@@ -1,22 +1,27 @@
-//! `--allow`: the packages whose licence is not satisfied by a list of allowed licences, and the targets on which they
-//! are in the build.
+//! `--allow` and `--policy`: the packages whose licence is not satisfied by a list of allowed licences, and the targets
+//! on which they are in the build.
 
 use crate::asked::{Asked, Words, unusable_words};
+use crate::excluded::subject_of;
 use crate::faults::{fault_lines, fault_message};
 use crate::graph::Graph;
 use crate::identifiers::{Messages, Place};
-use crate::lines::{push, shown_targets};
+use crate::licence_report::{Reason, Reported, counts_line};
+use crate::lines::push;
 use crate::packages::name_and_version;
-use crate::refused::unusable;
-use cargo_platform::{shown_start, shown_text};
-use key_answers::answer::{Answer, Refusal, Status, answered};
+use crate::policies::AuditPolicy;
+use crate::unused::report_unused;
+use cargo_platform::shown_text;
+use key_answers::answer::{Answer, Refusal, Status};
 use key_answers::json_lines;
 use key_answers::printing::shown_name;
 use key_answers::targets::At;
-use licence_audits::{Exception, Finding, Subject, audit};
+use licence_audits::{Exception, Finding, PackageSpec, Subject, Told, audit};
+use licence_policies::{ExceptionError, exception_of};
 use serde::Serialize;
 use spdx_expressions::{Licence, ParseError, ReadError};
 use std::alloc::{AllocError, Global};
+use std::mem;
 
 /// A line of `graph --allow --json`: a package whose licence is not allowed.
 #[derive(Drop, Serialize)]
@@ -26,13 +31,17 @@ struct LicenceLine<'a> {
     id: &'a str,
     /// The licence expression of the package.
     license: Option<&'a str>,
+    /// If `finding` is `not-allowed`: the licence expression in canonical form.
+    expression: Option<String>,
+    /// The path of the licence file of the package, in its folder.
+    license_file: Option<&'a str>,
     /// The number of targets in `at`.
     targets: usize,
     /// The selected targets on which the package is in the build.
     at: At<'a>,
     /// The sides for which the package is built. One of `target`, `host` and `both`.
     side: Option<&'static str>,
-    /// One of `not-allowed`, `missing` and `refused`.
+    /// One of `not-allowed`, `missing`, `file` and `refused`.
     finding: &'static str,
     /// If `finding` is `refused`: what was expected, and what was found.
     message: Option<String>,
@@ -41,18 +50,18 @@ struct LicenceLine<'a> {
     span: Option<(usize, usize)>,
 }
 
-/// The licences that are allowed, and messages about their identifiers.
-#[derive(Drop)]
-pub struct Allowed {
-    pub licences: Vec<Licence>,
-    pub messages: Messages,
-}
-
-/// The allowed licences and the exceptions of an audit.
+/// The allowed licences and the exceptions of an audit. Those of the policy, if there is one, are the first ones.
 #[derive(Drop)]
 pub struct Audit<'a> {
-    pub allowed: Allowed,
-    pub exceptions: Vec<Exception<'a>>,
+    pub licences: Vec<Licence>,
+    pub exceptions: Vec<Exception>,
+    /// The arguments of `--except`.
+    pub except: &'a [&'a str],
+    /// True if private packages are not audited.
+    ignores_private: bool,
+    /// Messages about the identifiers of licences.
+    messages: Messages,
+    pub policy: Option<AuditPolicy>,
 }
 
 /// Returns the message for an entry that is not a licence.
@@ -73,27 +82,27 @@ fn licence_of(alloc: Global, place: Place<'_>, entry: &str) -> Result<Licence, R
 
 /// Adds an entry to the allowed licences, with what there is to say of its identifiers.
 fn add_entry(
-    allowed: &mut Allowed,
+    audit: &mut Audit<'_>,
     alloc: Global,
     place: Place<'_>,
     entry: &str,
 ) -> Result<(), Refusal> {
     let licence = licence_of(alloc, place, entry)?;
-    allowed.messages.add_entry(alloc, place, &licence)?;
-    allowed.licences.push(licence).map_err(AllocError::from)?;
+    audit.messages.add_entry(alloc, place, &licence)?;
+    audit.licences.push(licence).map_err(AllocError::from)?;
     Ok(())
 }
 
 /// Adds the entries of `--allow`, which are separated by commas.
-fn add_list(allowed: &mut Allowed, alloc: Global, list: &str) -> Result<(), Refusal> {
+fn add_list(audit: &mut Audit<'_>, alloc: Global, list: &str) -> Result<(), Refusal> {
     for entry in list.split(',') {
-        add_entry(allowed, alloc, Place::Option, entry)?;
+        add_entry(audit, alloc, Place::Option, entry)?;
     }
     Ok(())
 }
 
 /// Adds the entries of a file, one per line. Empty lines and lines that begin with `#` are skipped.
-fn add_lines(allowed: &mut Allowed, alloc: Global, file: &str, text: &str) -> Result<(), Refusal> {
+fn add_lines(audit: &mut Audit<'_>, alloc: Global, file: &str, text: &str) -> Result<(), Refusal> {
     let file = shown_text(alloc, file)?;
     let mut number: usize = 0;
     for line in text.lines() {
@@ -102,74 +111,113 @@ fn add_lines(allowed: &mut Allowed, alloc: Global, file: &str, text: &str) -> Re
         if entry.is_empty() || entry.starts_with('#') {
             continue;
         }
-        add_entry(allowed, alloc, Place::Line(file.as_str(), number), entry)?;
+        add_entry(audit, alloc, Place::Line(file.as_str(), number), entry)?;
     }
     Ok(())
 }
 
 /// Returns the message for an argument that is not an exception.
-fn no_exception(alloc: Global, word: &str) -> Result<String, AllocError> {
+fn no_exception(alloc: Global, word: &str, error: &ExceptionError) -> Result<String, AllocError> {
     let shown = shown_name(alloc, word)?;
-    format!(in alloc; "--except names NAME@VERSION, and not {shown}")
+    match error {
+        ExceptionError::NoRange(reason) => {
+            let reason = reason.as_str();
+            format!(in alloc; "--except: no version or range after `@` in {shown}: {reason}")
+        }
+        ExceptionError::NoLicence(error) => {
+            let message = fault_message(alloc, error)?;
+            format!(in alloc; "--except: no licence after `:` in {shown}: {message}")
+        }
+        ExceptionError::NoName | ExceptionError::Memory(_) => format!(in alloc;
+            "--except names NAME, NAME@VERSION or NAME@RANGE, perhaps with :LICENCES, and not {shown}"
+        ),
+    }
 }
 
-/// Parses the exceptions of the arguments, each the name and the version of a package.
-fn exceptions_of<'a>(alloc: Global, words: &[&'a str]) -> Result<Vec<Exception<'a>>, Refusal> {
-    let mut exceptions = Vec::new(alloc);
-    for word in words {
-        match word.split_once('@') {
-            Some((name, version)) => exceptions
-                .push(Exception { name, version })
-                .map_err(AllocError::from)?,
-            None => {
-                let text = no_exception(alloc, word)?;
+/// Parses the exceptions of the arguments.
+fn add_exceptions(audit: &mut Audit<'_>, alloc: Global) -> Result<(), Refusal> {
+    for word in audit.except {
+        match exception_of(alloc, word) {
+            Ok(exception) => audit.exceptions.push(exception).map_err(AllocError::from)?,
+            Err(ExceptionError::Memory(refused)) => return Err(Refusal::Memory(refused)),
+            Err(error) => {
+                let text = no_exception(alloc, word, &error)?;
                 return Err(unusable_words(alloc, text.as_str()));
             }
         }
     }
-    Ok(exceptions)
+    Ok(())
 }
 
-/// Returns the licences that the arguments allow.
-fn allowed_by(alloc: Global, words: &Words<'_>) -> Result<Allowed, Refusal> {
-    let mut allowed = Allowed {
+/// Returns an audit with the licences and exceptions of a policy alone.
+fn audit_by<'a>(alloc: Global, words: &Words<'a>, policy: Option<AuditPolicy>) -> Audit<'a> {
+    let mut audit = Audit {
         licences: Vec::new(alloc),
+        exceptions: Vec::new(alloc),
+        except: words.except,
+        ignores_private: words.except_private,
         messages: Messages::new(alloc),
+        policy: None,
     };
-    if let Some(list) = words.allow {
-        add_list(&mut allowed, alloc, list)?;
+    if let Some(policy) = policy {
+        let mut policy = policy;
+        audit.licences = mem::replace(&mut policy.table.allowed, Vec::new(alloc));
+        audit.exceptions = mem::replace(&mut policy.table.exceptions, Vec::new(alloc));
+        audit.ignores_private |= policy.table.ignores_private;
+        audit.policy = Some(policy);
     }
-    if let Some((file, text)) = words.allow_file {
-        add_lines(&mut allowed, alloc, file, text)?;
+    audit
+}
+
+/// Returns the message for options that do not go together, if there are any.
+fn misplaced(words: &Words<'_>) -> Option<&'static str> {
+    let has_list = words.allow.is_some() || words.allow_file.is_some() || words.policy.is_some();
+    if !has_list && (words.except_private || !words.except.is_empty()) {
+        return Some(
+            "`--except` and `--except-private` go with `--allow`, `--allow-file` or `--policy`",
+        );
     }
-    Ok(allowed)
+    if has_list && words.show.is_some() {
+        return Some("`--show` does not go with `--allow`, `--allow-file` and `--policy`");
+    }
+    None
 }
 
 impl<'a> Audit<'a> {
-    /// Returns the audit that the arguments describe, if they request one.
+    /// Returns the audit that the arguments and the policy describe, if they request one.
     ///
     /// # Errors
     ///
     /// Refuses `--except` without a list of allowed licences, `--show` together with one, an entry that is not a
-    /// licence, and an exception that is not `NAME@VERSION`. Fails if memory is refused.
-    pub fn of(alloc: Global, words: &Words<'a>) -> Result<Option<Audit<'a>>, Refusal> {
-        if words.allow.is_none() && words.allow_file.is_none() {
-            if words.except.is_empty() {
-                return Ok(None);
-            }
-            let text = "`--except` goes with `--allow` or `--allow-file`";
+    /// licence, and an argument that is not an exception. Fails if an allocation fails.
+    pub fn of(
+        alloc: Global,
+        words: &Words<'a>,
+        policy: Option<AuditPolicy>,
+    ) -> Result<Option<Audit<'a>>, Refusal> {
+        if let Some(text) = misplaced(words) {
             return Err(unusable_words(alloc, text));
         }
-        if words.show.is_some() {
-            let text = "`--show` does not go with `--allow` and `--allow-file`";
-            return Err(unusable_words(alloc, text));
+        if words.allow.is_none() && words.allow_file.is_none() && policy.is_none() {
+            return Ok(None);
         }
-        let allowed = allowed_by(alloc, words)?;
-        let exceptions = exceptions_of(alloc, words.except)?;
-        Ok(Some(Audit {
-            allowed,
-            exceptions,
-        }))
+        let mut audit = audit_by(alloc, words, policy);
+        if let Some(list) = words.allow {
+            add_list(&mut audit, alloc, list)?;
+        }
+        if let Some((file, text)) = words.allow_file {
+            add_lines(&mut audit, alloc, file, text)?;
+        }
+        add_exceptions(&mut audit, alloc)?;
+        Ok(Some(audit))
+    }
+
+    /// Returns the packages that the policy takes out of the graph.
+    pub fn excluded(&self) -> &[PackageSpec] {
+        match &self.policy {
+            Some(policy) => policy.excluded.as_slice(),
+            None => &[],
+        }
     }
 }
 
@@ -178,20 +226,19 @@ fn subjects_of<'a>(
     alloc: Global,
     graph: &Graph<'a>,
     asked: &Asked<'_>,
+    by: &Audit<'_>,
 ) -> Result<Vec<Subject<'a>>, AllocError> {
     let mut subjects = Vec::new(alloc);
     for i in &graph.order {
         let is_present = !graph.at(*i, asked).is_empty();
         let subject = match graph.described(*i) {
-            Some(described) => Subject {
-                name: described.name,
-                version: described.version,
-                license: described.license,
-                is_present,
-            },
+            Some(described) => {
+                let is_ignored = by.ignores_private && described.is_private;
+                subject_of(alloc, described, is_present && !is_ignored)?
+            }
             None => Subject {
                 name: "",
-                version: "",
+                version: None,
                 license: None,
                 is_present: false,
             },
@@ -201,64 +248,81 @@ fn subjects_of<'a>(
     Ok(subjects)
 }
 
-/// Returns the first exception that names no package.
-fn unused<'a>(exceptions: &[Exception<'a>], subjects: &[Subject<'_>]) -> Option<Exception<'a>> {
-    for exception in exceptions {
-        if !subjects.iter().any(|subject| exception.names(subject)) {
-            return Some(*exception);
-        }
-    }
-    None
-}
-
-/// Returns the message for an exception that names no package.
-fn no_package(alloc: Global, exception: Exception<'_>) -> Result<String, AllocError> {
-    let name = shown_name(alloc, exception.name)?;
-    let version = shown_name(alloc, exception.version)?;
-    format!(in alloc; "--except: no package is {name}@{version}")
-}
-
-/// Returns the output of `--allow`. Its status is `Found` if there is something to report.
-pub fn show_licences(
+/// Returns the output of an audit. Its status is `Found` if there is something to report.
+pub fn show_licences<'a>(
     alloc: Global,
-    file: &str,
-    graph: &Graph<'_>,
-    asked: &Asked<'_>,
+    graph: &Graph<'a>,
+    asked: &Asked<'a>,
     by: &Audit<'_>,
 ) -> Result<Answer, AllocError> {
-    let subjects = subjects_of(alloc, graph, asked)?;
-    if let Some(exception) = unused(&by.exceptions, &subjects) {
-        let reason = no_package(alloc, exception)?;
-        return answered(alloc, Err(unusable(alloc, file, reason.as_str())));
-    }
-    let told = audit(alloc, &subjects, &by.exceptions, &by.allowed.licences)?;
+    let subjects = subjects_of(alloc, graph, asked, by)?;
+    let told = audit(alloc, &subjects, &by.exceptions, &by.licences)?;
     let mut answer = Answer::of(alloc, String::new(alloc), Status::Fine);
-    push(&mut answer.errors, by.allowed.messages.text())?;
+    if let Some(policy) = &by.policy {
+        push(&mut answer.errors, policy.messages.as_str())?;
+    }
+    push(&mut answer.errors, by.messages.text())?;
+    report_unused(&mut answer, alloc, by, &subjects)?;
+    let messages = messages_on(alloc, graph, &told, asked)?;
+    push(&mut answer.errors, messages.text())?;
+    if !told.is_empty() {
+        answer.raise(Status::Found);
+    }
+    if asked.json {
+        push_objects(&mut answer.output, alloc, graph, &told, asked)?;
+        return Ok(answer);
+    }
+    let reported = Reported {
+        graph,
+        told: &told,
+        asked,
+    };
+    reported.push_groups(&mut answer.output, alloc)?;
+    let line = counts_line(alloc, graph, &told, &subjects)?;
+    push(&mut answer.errors, line.as_str())?;
+    Ok(answer)
+}
+
+/// Returns the messages about the licences that are not allowed. Notes are left out for JSON, which has both forms of a
+/// licence.
+fn messages_on(
+    alloc: Global,
+    graph: &Graph<'_>,
+    told: &[Told],
+    asked: &Asked<'_>,
+) -> Result<Messages, AllocError> {
     let mut messages = Messages::new(alloc);
-    for one in &told {
-        let Some(index) = graph.order.get(one.place) else {
+    for one in told {
+        let (Some(index), Finding::NotAllowed(expression)) = (
+            graph.order.get(one.place),
+            &one.finding,
+        ) else {
             continue;
         };
-        answer.raise(Status::Found);
-        if let Finding::NotAllowed(expression) = &one.finding {
-            let name = graph.shown(alloc, *index)?;
-            messages.add_first(alloc, Place::Package(name.as_str()), expression.parts())?;
+        let name = graph.shown(alloc, *index)?;
+        let license = match graph.described(*index) {
+            Some(described) if !asked.json => described.license,
+            _ => None,
+        };
+        messages.add_package(alloc, name.as_str(), license, expression)?;
+    }
+    Ok(messages)
+}
+
+/// Appends a line of JSON for each reported package.
+fn push_objects<'a>(
+    text: &mut String,
+    alloc: Global,
+    graph: &Graph<'a>,
+    told: &[Told],
+    asked: &Asked<'a>,
+) -> Result<(), AllocError> {
+    for one in told {
+        if let Some(index) = graph.order.get(one.place) {
+            push_object(text, alloc, graph, *index, &one.finding, asked)?;
         }
-        push_told(
-            &mut answer.output,
-            alloc,
-            graph,
-            *index,
-            &one.finding,
-            asked,
-        )?;
     }
-    push(&mut answer.errors, messages.text())?;
-    if !asked.json {
-        let line = shown_counts(alloc, told.len(), &subjects)?;
-        push(&mut answer.errors, line.as_str())?;
-    }
-    Ok(answer)
+    Ok(())
 }
 
 /// Returns for each package of a graph what an audit reports of its licence.
@@ -272,8 +336,8 @@ pub fn reported_in(
     let Some(by) = by else {
         return Ok(reported);
     };
-    let subjects = subjects_of(alloc, graph, asked)?;
-    for one in &audit(alloc, &subjects, &by.exceptions, &by.allowed.licences)? {
+    let subjects = subjects_of(alloc, graph, asked, by)?;
+    for one in &audit(alloc, &subjects, &by.exceptions, &by.licences)? {
         let Some(index) = graph.order.get(one.place) else {
             continue;
         };
@@ -284,80 +348,10 @@ pub fn reported_in(
     Ok(reported)
 }
 
-/// Formats the number of reported packages and the number of packages in the build.
-fn shown_counts(
-    alloc: Global,
-    count: usize,
-    subjects: &[Subject<'_>],
-) -> Result<String, AllocError> {
-    let all = subjects.iter().filter(|subject| subject.is_present).count();
-    format!(in alloc; "{count} of {all} packages have a licence that is not allowed\n")
-}
-
-/// Appends the report on a package: its object, or its lines.
-fn push_told(
-    text: &mut String,
-    alloc: Global,
-    graph: &Graph<'_>,
-    index: usize,
-    finding: &Finding,
-    asked: &Asked<'_>,
-) -> Result<(), AllocError> {
-    if asked.json {
-        push_object(text, alloc, graph, index, finding, asked)
-    } else {
-        push_lines(text, alloc, graph, index, finding, asked)
-    }
-}
-
-/// Formats a finding: the expression, or why there is none.
-fn shown_finding(alloc: Global, finding: &Finding) -> Result<String, AllocError> {
-    match finding {
-        Finding::NotAllowed(expression) => {
-            let text = format!(in alloc; "{expression}")?;
-            shown_start(alloc, text.as_str())
-        }
-        Finding::Missing => String::from_str(alloc, "no licence"),
-        Finding::Refused(_) => String::from_str(alloc, "refused licence"),
-    }
-}
-
-/// Appends the line of a reported package, and the indented lines of the error if its licence is refused.
-fn push_lines(
-    text: &mut String,
-    alloc: Global,
-    graph: &Graph<'_>,
-    index: usize,
-    finding: &Finding,
-    asked: &Asked<'_>,
-) -> Result<(), AllocError> {
-    let found = shown_finding(alloc, finding)?;
-    let package = graph.shown(alloc, index)?;
-    let built = graph.built(index, asked);
-    let targets = shown_targets(alloc, built.targets(), asked)?;
-    let note = built.sides().note();
-    let line = format!(in alloc; "{found}: {package}{note}, {targets}\n")?;
-    push(text, line.as_str())?;
-    if let Finding::Refused(error) = finding {
-        let lines = fault_lines(alloc, error)?;
-        push(text, lines.as_str())?;
-    }
-    Ok(())
-}
-
-/// Returns what a finding says of a licence.
+/// Returns what a page says of a licence.
 fn finding_text(finding: &Finding) -> &'static str {
     match finding {
         Finding::NotAllowed(_) => "not allowed",
-        Finding::Missing => "missing",
-        Finding::Refused(_) => "refused",
-    }
-}
-
-/// Returns the name of a finding.
-fn finding_word(finding: &Finding) -> &'static str {
-    match finding {
-        Finding::NotAllowed(_) => "not-allowed",
         Finding::Missing => "missing",
         Finding::Refused(_) => "refused",
     }
@@ -392,14 +386,20 @@ fn push_object<'a>(
     let built = graph.built(index, asked);
     let targets = built.targets();
     let (message, span) = fault_of(alloc, finding)?;
+    let expression = match finding {
+        Finding::NotAllowed(expression) => Some(format!(in alloc; "{expression}")?),
+        Finding::Missing | Finding::Refused(_) => None,
+    };
     let line = LicenceLine {
         package: name_and_version(alloc, described)?,
         id: described.id,
         license: described.license,
+        expression,
+        license_file: described.license_file,
         targets: asked.count_of(targets),
         at: asked.at(alloc, targets)?,
         side: built.sides().word(),
-        finding: finding_word(finding),
+        finding: Reason::of(finding, described).word(),
         message,
         span,
     };

@@ -2,25 +2,16 @@
 //!
 //! Each text of the document is formatted as in text output, and written with `push_text`, which escapes HTML markup.
 
-use crate::asked::Asked;
 use crate::dates::day_of;
-use crate::graph::Graph;
-use crate::lines::{joined_names, shown, shown_count};
-use crate::packages::{Reached, kinds_reached};
-use crate::targets::{Class, classes_at};
 use cargo_platform::shown_text;
+use graph_queries::asked::{Asked, Made};
+use graph_queries::classes::{Class, classes_at};
+use graph_queries::graph::Graph;
+use graph_queries::lines::{joined_names, shown, shown_count};
+use graph_queries::packages::{Reached, count_present, kinds_reached};
 use html_pages::Page;
 use known_targets::{RUSTC_VERSION, TargetSet};
 use std::alloc::{AllocError, Global};
-
-/// What the page says of how it was made.
-#[derive(Clone, Copy, Drop)]
-pub struct Made<'a> {
-    /// The command, as a shell reads it.
-    pub command: &'a str,
-    /// The date, in seconds since 1970. Without it the page has none.
-    pub seconds: Option<u64>,
-}
 
 /// The markup before the title.
 const START: &str = "<!doctype html>\n\
@@ -35,7 +26,7 @@ const HEAD: &str = "</title>\n\
     <style>\n\
     @page { size: A4 landscape; margin: 12mm; }\n\
     :root { color-scheme: light dark; --line: #7f7f7f66; --there: #2e8b5740; --reported: #b2222240; }\n\
-    body { font: 15px/1.5 system-ui, sans-serif; margin: 2rem auto; max-width: 80rem; padding: 0 1rem; }\n\
+    body { font: 15px/1.5 system-ui, sans-serif; margin: 2rem auto; max-width: 120rem; padding: 0 1rem; }\n\
     div { overflow: auto; max-height: 92vh; }\n\
     table { border-collapse: collapse; font-variant-numeric: tabular-nums; }\n\
     caption { padding: .4rem .6rem; text-align: left; }\n\
@@ -55,6 +46,8 @@ const HEAD: &str = "</title>\n\
     thead { display: table-header-group; }\n\
     thead th { position: static; }\n\
     tr { break-inside: avoid; }\n\
+    th, td { padding: .15rem .4rem; }\n\
+    th.class, td.class { min-width: 1.2em; padding: .15rem .1rem; }\n\
     td { print-color-adjust: exact; }\n\
     }\n\
     </style>\n\
@@ -80,8 +73,16 @@ pub fn page_of(
     push_made(&mut page, alloc, made)?;
     push_summary(&mut page, alloc, graph, asked)?;
     push_legend(&mut page, alloc, &classes, asked)?;
-    push_packages(&mut page, alloc, graph, &classes, asked, reported)?;
-    add_markup(&mut page, "</body>\n</html>\n")?;
+    push_head(&mut page, alloc, graph, &classes, asked)?;
+    for row in &rows_of(alloc, graph, asked, reported)? {
+        add_markup(&mut page, "<tr>")?;
+        push_package(&mut page, alloc, graph, row, asked)?;
+        push_licence(&mut page, alloc, graph, row)?;
+        push_features(&mut page, alloc, graph, row, asked)?;
+        push_dots(&mut page, graph.present(row.index), &classes)?;
+        add_markup(&mut page, "</tr>\n")?;
+    }
+    add_markup(&mut page, "</tbody>\n</table></div>\n</body>\n</html>\n")?;
     Ok(page.into_html())
 }
 
@@ -153,12 +154,7 @@ fn push_summary(
     asked: &Asked<'_>,
 ) -> Result<(), AllocError> {
     let all = graph.order.len();
-    let mut count: usize = 0;
-    for i in &graph.order {
-        if !graph.at(*i, asked).is_empty() {
-            count = count.saturating_add(1);
-        }
-    }
+    let count = count_present(graph, asked);
     let targets = shown_count(alloc, asked.count)?;
     let source = source_of(alloc, asked)?;
     let text = format!(in alloc;
@@ -187,8 +183,8 @@ fn push_legend(
          <thead><tr><th scope=\"col\">Class</th><th scope=\"col\">Where</th><th scope=\"col\">Targets</th></tr>\
          </thead>\n<tbody>\n",
     )?;
-    for i in 0..classes.len() {
-        push_class(page, alloc, i.saturating_add(1), &classes[i], asked)?;
+    for class in classes {
+        push_class(page, alloc, class, asked)?;
     }
     add_markup(page, "</tbody>\n</table></div>\n</details>\n")
 }
@@ -197,25 +193,23 @@ fn push_legend(
 fn push_class(
     page: &mut Page,
     alloc: Global,
-    number: usize,
     class: &Class,
     asked: &Asked<'_>,
 ) -> Result<(), AllocError> {
-    let targets = class.targets.intersection(asked.targets);
     add_markup(page, "<tr id=\"class-")?;
-    push_number(page, alloc, number)?;
+    push_number(page, alloc, class.number)?;
     add_markup(page, "\"><th class=\"class\" scope=\"row\">")?;
-    push_number(page, alloc, number)?;
+    push_number(page, alloc, class.number)?;
     add_markup(page, "</th><td><code>")?;
     if let Some(condition) = &class.condition {
         let condition = shown_text(alloc, condition.as_str())?;
         add_text(page, condition.as_str())?;
     }
     add_markup(page, "</code></td><td>")?;
-    let count = shown_count(alloc, asked.count_of(targets))?;
+    let count = shown_count(alloc, asked.count_of(class.targets))?;
     add_text(page, count.as_str())?;
     add_markup(page, ": <code>")?;
-    let names = joined_names(alloc, targets, asked)?;
+    let names = joined_names(alloc, class.targets, asked)?;
     add_text(page, names.as_str())?;
     add_markup(page, "</code></td></tr>\n")
 }
@@ -224,14 +218,12 @@ fn push_class(
 fn push_class_head(
     page: &mut Page,
     alloc: Global,
-    number: usize,
     class: &Class,
     asked: &Asked<'_>,
 ) -> Result<(), AllocError> {
-    let targets = class.targets.intersection(asked.targets);
-    let count = shown_count(alloc, asked.count_of(targets))?;
+    let count = shown_count(alloc, asked.count_of(class.targets))?;
     add_markup(page, "<th class=\"class\" scope=\"col\"><a href=\"#class-")?;
-    push_number(page, alloc, number)?;
+    push_number(page, alloc, class.number)?;
     add_markup(page, "\" title=\"")?;
     add_text(page, count.as_str())?;
     if let Some(condition) = &class.condition {
@@ -240,20 +232,48 @@ fn push_class_head(
         add_text(page, condition.as_str())?;
     }
     add_markup(page, "\">")?;
-    push_number(page, alloc, number)?;
+    push_number(page, alloc, class.number)?;
     add_markup(page, "</a></th>")
 }
 
-/// Writes the table of the packages.
-fn push_packages(
+/// A row of the table of packages.
+#[derive(Clone, Copy, Drop)]
+struct Row {
+    index: usize,
+    reached: Reached,
+    /// What an audit reports of the package's licence.
+    reported: Option<&'static str>,
+}
+
+/// Returns the rows of the table of packages.
+fn rows_of(
+    alloc: Global,
+    graph: &Graph<'_>,
+    asked: &Asked<'_>,
+    reported: &[Option<&'static str>],
+) -> Result<Vec<Row>, AllocError> {
+    let reached = kinds_reached(alloc, graph, asked)?;
+    let mut rows = Vec::new(alloc);
+    for index in &graph.order {
+        if let Some(reached) = reached.get(*index) {
+            rows.push(Row {
+                index: *index,
+                reached: *reached,
+                reported: reported.get(*index).copied().unwrap_or(None),
+            })?;
+        }
+    }
+    Ok(rows)
+}
+
+/// Writes the head of the table of packages.
+fn push_head(
     page: &mut Page,
     alloc: Global,
     graph: &Graph<'_>,
     classes: &[Class],
     asked: &Asked<'_>,
-    reported: &[Option<&'static str>],
 ) -> Result<(), AllocError> {
-    let reached = kinds_reached(alloc, graph, asked)?;
     add_markup(
         page,
         "<h2>Packages</h2>\n<div><table>\n<caption>A dot says that a package is in the build on the targets of a \
@@ -266,22 +286,10 @@ fn push_packages(
             "<th scope=\"col\" title=\"on at some of the targets\">Features</th>",
         )?;
     }
-    for i in 0..classes.len() {
-        push_class_head(page, alloc, i.saturating_add(1), &classes[i], asked)?;
+    for class in classes {
+        push_class_head(page, alloc, class, asked)?;
     }
-    add_markup(page, "</tr></thead>\n<tbody>\n")?;
-    for i in &graph.order {
-        if let Some(reached) = reached.get(*i) {
-            add_markup(page, "<tr>")?;
-            push_package(page, alloc, graph, *i, *reached, asked)?;
-            let reported = reported.get(*i).copied().unwrap_or(None);
-            push_licence(page, alloc, graph, *i, reported)?;
-            push_features(page, alloc, graph, *i, asked)?;
-            push_dots(page, graph.present(*i), classes)?;
-            add_markup(page, "</tr>\n")?;
-        }
-    }
-    add_markup(page, "</tbody>\n</table></div>\n")
+    add_markup(page, "</tr></thead>\n<tbody>\n")
 }
 
 /// Writes the first cells of a package: its name, version, kinds and sides.
@@ -289,27 +297,29 @@ fn push_package(
     page: &mut Page,
     alloc: Global,
     graph: &Graph<'_>,
-    index: usize,
-    reached: Reached,
+    row: &Row,
     asked: &Asked<'_>,
 ) -> Result<(), AllocError> {
-    let Some(described) = graph.described(index) else {
+    let Some(described) = graph.described(row.index) else {
         return Ok(());
     };
     add_markup(page, "<th scope=\"row\">")?;
     push_shown(page, alloc, described.name)?;
     add_markup(page, "</th><td>")?;
     push_shown(page, alloc, described.version)?;
-    if let Some(source) = graph.source(index) {
+    if let Some(source) = graph.source(row.index) {
         add_markup(page, " (")?;
         push_shown(page, alloc, source)?;
         add_markup(page, ")")?;
     }
     add_markup(page, "</td><td>")?;
-    let kinds = reached.words(alloc)?;
+    let kinds = row.reached.words(alloc)?;
     add_text(page, kinds.as_str())?;
     add_markup(page, "</td><td>")?;
-    add_markup(page, graph.built(index, asked).sides().word().unwrap_or(""))?;
+    add_markup(
+        page,
+        graph.built(row.index, asked).sides().word().unwrap_or(""),
+    )?;
     add_markup(page, "</td>")
 }
 
@@ -318,14 +328,13 @@ fn push_licence(
     page: &mut Page,
     alloc: Global,
     graph: &Graph<'_>,
-    index: usize,
-    reported: Option<&'static str>,
+    row: &Row,
 ) -> Result<(), AllocError> {
-    let license = match graph.described(index) {
+    let license = match graph.described(row.index) {
         Some(described) => described.license,
         None => None,
     };
-    let start = if reported.is_some() {
+    let start = if row.reported.is_some() {
         "<td class=\"reported\">"
     } else {
         "<td>"
@@ -335,7 +344,7 @@ fn push_licence(
         Some(license) => push_shown(page, alloc, license)?,
         None => add_markup(page, "<em>no licence</em>")?,
     }
-    if let Some(reported) = reported {
+    if let Some(reported) = row.reported {
         add_markup(page, " <strong>")?;
         add_markup(page, reported)?;
         add_markup(page, "</strong>")?;
@@ -348,28 +357,20 @@ fn push_features(
     page: &mut Page,
     alloc: Global,
     graph: &Graph<'_>,
-    index: usize,
+    row: &Row,
     asked: &Asked<'_>,
 ) -> Result<(), AllocError> {
-    let Some(features) = &graph.features else {
+    if graph.features.is_none() {
         return Ok(());
-    };
+    }
     add_markup(page, "<td>")?;
-    let names = features.names(alloc, index)?;
     let mut is_first = true;
-    for i in 0..names.len() {
-        if graph
-            .feature_at(index, i)
-            .intersection(asked.targets)
-            .is_empty()
-        {
-            continue;
-        }
+    for name in graph.features_on(alloc, row.index, asked)? {
         if !is_first {
             add_markup(page, ", ")?;
         }
         is_first = false;
-        push_shown(page, alloc, names[i])?;
+        push_shown(page, alloc, name)?;
     }
     add_markup(page, "</td>")
 }

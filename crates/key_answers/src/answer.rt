@@ -105,6 +105,22 @@ impl From<AllocError> for Refusal {
     }
 }
 
+/// Returns the refusal of invalid arguments with this message, or the refusal of memory for its line.
+pub fn unusable_words(alloc: Global, message: &str) -> Refusal {
+    match format!(in alloc; "error: {message}\n") {
+        Ok(line) => Refusal::Unusable(line),
+        Err(refused) => Refusal::Memory(refused),
+    }
+}
+
+/// Returns the refusal of a file with this reason, on a line of its own, or the refusal of memory for that line.
+pub fn unusable(alloc: Global, file: &str, reason: &str) -> Refusal {
+    match format!(in alloc; "{file}: error: {reason}\n") {
+        Ok(line) => Refusal::Unusable(line),
+        Err(refused) => Refusal::Memory(refused),
+    }
+}
+
 /// Returns the answer, or the one that says why there is none.
 pub fn answered(alloc: Global, answer: Result<Answer, Refusal>) -> Result<Answer, AllocError> {
     match answer {

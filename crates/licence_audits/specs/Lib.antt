@@ -1,2 +1,4 @@
 pub mod Findings
+pub mod Exceptions
+pub mod Uses
 pub mod Audits

@@ -1,28 +1,31 @@
-//! What is told of many packages.
+//! Audits many packages.
 
-ghost use Rattle.std.specs.Prelude.{IfOk, map};
+ghost use Rattle.std.specs.Prelude.{IfOk, map, ◌++◌, option_map};
 ghost use Rattle.spdx_expressions.specs.Trees.{term_of};
 ghost use Rattle.licence_audits.specs.Audits.{AreTold, IsToldOf};
+ghost use Rattle.licence_audits.specs.Exceptions.{added};
+ghost use Rattle.licence_audits.specs.Findings.{HasFinding};
 
+use crate::additions::{add_copies, added_for};
 use crate::findings::{Finding, judge};
 use crate::subjects::{Exception, Subject, is_audited};
 use spdx_expressions::Licence;
 use std::alloc::{AllocError, Global};
 
-/// A package that is told.
+/// A problem with the licence of a package.
 #[derive(Drop)]
 pub struct Told {
-    /// Its place among those that were audited.
+    /// The index of the package among those that were audited.
     pub place: usize,
     pub finding: Finding,
 }
 
-/// What is told of packages, in their order: of each that is in the build, and that no exception names, what is found
-/// of its licence.
+/// Audits the packages in their order. Returns what `judge` finds of each package that is in the build and that no
+/// exception names. Fails only if an allocation fails.
 pub fn audit(
     alloc: Global,
     subjects: &[Subject<'_>],
-    exceptions: &[Exception<'_>],
+    exceptions: &[Exception],
     allowed: &[Licence],
 ) -> Result<Vec<Told>, AllocError>
     ensures { IfOk result (λ told. AreTold (map term_of allowed.now) exceptions.now subjects.now told.items) }
@@ -40,18 +43,36 @@ pub fn audit(
     Ok(told)
 }
 
-/// What is told of a package.
+/// Audits one package.
 fn audit_of(
     alloc: Global,
     subject: &Subject<'_>,
-    exceptions: &[Exception<'_>],
+    exceptions: &[Exception],
     allowed: &[Licence],
 ) -> Result<Option<Finding>, AllocError>
     ensures { IfOk result (λ found. IsToldOf (map term_of allowed.now) exceptions.now subject.now found) }
 {
     if is_audited(exceptions, subject) {
-        judge(alloc, subject.license, allowed)
+        judge_with(alloc, subject, exceptions, allowed)
     } else {
         Ok(None)
     }
+}
+
+/// What is found of the licence of a package, over the list and what exceptions add to it.
+fn judge_with(
+    alloc: Global,
+    subject: &Subject<'_>,
+    exceptions: &[Exception],
+    allowed: &[Licence],
+) -> Result<Option<Finding>, AllocError>
+    ensures { IfOk result (λ found. HasFinding (added exceptions.now subject.now ++ map term_of allowed.now)
+        (option_map (λ text. text.now) subject.now.license) found) }
+{
+    let mut list = added_for(alloc, exceptions, subject)?;
+    if list.is_empty() {
+        return judge(alloc, subject.license, allowed);
+    }
+    add_copies(&mut list, allowed)?;
+    judge(alloc, subject.license, &list)
 }

@@ -34,6 +34,7 @@ pub use formats::{Format, Printed, Style};
 pub use formers::{Formers, Project};
 pub use on_keys::{diagnostic_of, diagnostic_of_wrong};
 pub use on_rules::{diagnostic_of_fault, diagnostic_of_unneeded};
+pub use rendering::push_rendered;
 pub use replacements::{Replacement, replacement_of};
 pub use settings::{Fault, FaultAt, Settings, TOOL, release_of, settings_at};
 pub use weight_laws::{one_weight, the_last_decides, unheard_rules_do_nothing};

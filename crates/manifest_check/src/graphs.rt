@@ -2,13 +2,13 @@
 
 use crate::asking::given_targets;
 use crate::limits::{limit_of, text_at, text_of};
+use crate::locks::{NamedLock, bill_of, lock_of};
+use crate::reports::{Report, report_on};
 use crate::words::command_given;
 use anyhow::Result;
 use cargo_platform::shown_text;
 use clap::ArgMatches;
-use graph_answers::asked::Words;
-use graph_answers::page::Made;
-use graph_answers::{Report, report_on};
+use graph_queries::asked::{Made, Requested, Words};
 use input_limits::INPUT;
 use key_answers::answer::{Answer, Refusal, answered};
 use manifest_answers::given_targets::GivenTargets;
@@ -23,63 +23,96 @@ fn unusable(alloc: Global, file: &str, error: &io::Error) -> Result<Answer> {
     Ok(Answer::unusable(alloc, text))
 }
 
+/// A file that an option names: its name and its text.
+type OptionFile<'a> = Option<(&'a str, String)>;
+
+/// The files that options name, beside the document.
+#[derive(Drop)]
+struct OptionFiles<'a> {
+    /// An older output of `cargo metadata`.
+    against: OptionFile<'a>,
+    /// A list of allowed licences.
+    allow_file: OptionFile<'a>,
+    policy: OptionFile<'a>,
+}
+
+/// Returns the name and the text of a file.
+fn name_and_text<'f>(file: &'f OptionFile<'f>) -> Option<(&'f str, &'f str)> {
+    match file {
+        Some((name, text)) => Some((name, text.as_str())),
+        None => None,
+    }
+}
+
 /// Runs `graph`.
 pub fn graph_answer<R: Files + Input + Env + AllocGlobal>(
     rt: &R,
     matches: &ArgMatches<'_>,
 ) -> Result<Answer> {
-    match file_of(rt, matches, "against") {
-        Ok(None) => answer_against(rt, matches, None),
-        Ok(Some((old, text))) => answer_against(rt, matches, Some((old, text.as_str()))),
+    match files_of(rt, matches) {
+        Ok(files) => answer_of(rt, matches, &files),
         Err(refusal) => Ok(answered(rt.alloc(), Err(refusal))?),
     }
 }
 
-/// Reads the file that an option names, and returns its name and its text, if the option is given.
+/// Reads the files that options name.
+fn files_of<'a, R: Files + AllocGlobal>(
+    rt: &R,
+    matches: &ArgMatches<'a>,
+) -> Result<OptionFiles<'a>, Refusal> {
+    Ok(OptionFiles {
+        against: file_of(rt, matches, "against")?,
+        allow_file: file_of(rt, matches, "allow-file")?,
+        policy: file_of(rt, matches, "policy")?,
+    })
+}
+
+/// Reads the file that an option names, if the option is given.
 fn file_of<'a, R: Files + AllocGlobal>(
     rt: &R,
     matches: &ArgMatches<'a>,
     option: &str,
-) -> Result<Option<(&'a str, String)>, Refusal> {
+) -> Result<OptionFile<'a>, Refusal> {
     match matches.get_str(option) {
         Some(name) => Ok(Some((name, text_at(rt, name, limit_of(matches))?))),
         None => Ok(None),
     }
 }
 
-/// Runs `graph` with the name and the text of an older output of `cargo metadata`.
-fn answer_against<R: Files + Input + Env + AllocGlobal>(
-    rt: &R,
-    matches: &ArgMatches<'_>,
-    against: Option<(&str, &str)>,
-) -> Result<Answer> {
-    match file_of(rt, matches, "allow-file") {
-        Ok(None) => answer_of(rt, matches, None, against),
-        Ok(Some((list, text))) => answer_of(rt, matches, Some((list, text.as_str())), against),
-        Err(refusal) => Ok(answered(rt.alloc(), Err(refusal))?),
-    }
-}
-
-/// Runs `graph` with the names and the texts of a file of allowed licences and of an older output of `cargo metadata`.
+/// Runs `graph` with the files that options name.
 fn answer_of<R: Files + Input + Env + AllocGlobal>(
     rt: &R,
     matches: &ArgMatches<'_>,
-    allow_file: Option<(&str, &str)>,
-    against: Option<(&str, &str)>,
+    files: &OptionFiles<'_>,
 ) -> Result<Answer> {
     match given_targets(rt, matches) {
-        Ok(None) => answer_with(rt, matches, allow_file, against, None),
-        Ok(Some(given)) => answer_with(rt, matches, allow_file, against, Some(&given)),
+        Ok(None) => answer_locked(rt, matches, files, None),
+        Ok(Some(given)) => answer_locked(rt, matches, files, Some(&given)),
         Err(refusal) => Ok(answered(rt.alloc(), Err(refusal))?),
     }
 }
 
-/// Returns the date of the page in seconds since 1970, which `SOURCE_DATE_EPOCH` sets, if a page is requested.
+/// Runs `graph` with the files that options name and the targets of `--facts-of`, and reads the lock file.
+fn answer_locked<R: Files + Input + Env + AllocGlobal>(
+    rt: &R,
+    matches: &ArgMatches<'_>,
+    files: &OptionFiles<'_>,
+    given: Option<&GivenTargets>,
+) -> Result<Answer> {
+    match lock_of(rt, matches) {
+        Ok(None) => answer_with(rt, matches, files, given, None),
+        Ok(Some(lock)) => answer_with(rt, matches, files, given, Some(&lock)),
+        Err(refusal) => Ok(answered(rt.alloc(), Err(refusal))?),
+    }
+}
+
+/// Returns the time of the page or of the bill of materials in seconds since 1970, which `SOURCE_DATE_EPOCH` sets, if
+/// one is requested.
 fn seconds_of<R: Env + AllocGlobal>(
     rt: &R,
     matches: &ArgMatches<'_>,
 ) -> Result<Option<u64>, Refusal> {
-    if matches.get_str("html").is_none() {
+    if matches.get_str("html").is_none() && matches.get_str("format").is_none() {
         return Ok(None);
     }
     let seconds = match env::var(rt, "SOURCE_DATE_EPOCH") {
@@ -100,9 +133,9 @@ fn seconds_of<R: Env + AllocGlobal>(
 fn answer_with<R: Files + Input + Env + AllocGlobal>(
     rt: &R,
     matches: &ArgMatches<'_>,
-    allow_file: Option<(&str, &str)>,
-    against: Option<(&str, &str)>,
+    files: &OptionFiles<'_>,
     given: Option<&GivenTargets>,
+    lock: Option<&NamedLock>,
 ) -> Result<Answer> {
     let file = matches.get_str("metadata").unwrap_or(INPUT);
     let alloc = rt.alloc();
@@ -135,21 +168,26 @@ fn answer_with<R: Files + Input + Env + AllocGlobal>(
         show: matches.get_str("show"),
         of: matches.get_str("of"),
         allow: matches.get_str("allow"),
-        allow_file,
-        against,
+        allow_file: name_and_text(&files.allow_file),
+        except_private: matches.get_flag("except-private"),
+        policy: name_and_text(&files.policy),
+        against: name_and_text(&files.against),
         fail_on: matches.get_str("fail-on"),
         markdown: matches.get_flag("markdown"),
         except: matches.get_strs("except").unwrap_or(&[]),
-        resolver: matches.get_str("resolver"),
-        features: matches.get_strs("features").unwrap_or(&[]),
-        no_default: matches.get_flag("no-default-features"),
-        all_features: matches.get_flag("all-features"),
+        requested: Requested {
+            resolver: matches.get_str("resolver"),
+            features: matches.get_strs("features").unwrap_or(&[]),
+            no_default: matches.get_flag("no-default-features"),
+            all_features: matches.get_flag("all-features"),
+        },
         json: matches.get_flag("json"),
         html,
     };
     match text_of(rt, file, limit_of(matches)) {
         Ok(text) => {
-            let report = report_on(alloc, file, text.as_str(), &words)?;
+            let bill = bill_of(matches, seconds, lock);
+            let report = report_on(alloc, file, text.as_str(), &words, bill)?;
             written(rt, report, matches.get_str("html"))
         }
         Err(refusal) => Ok(answered(alloc, Err(refusal))?),

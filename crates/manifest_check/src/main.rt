@@ -9,9 +9,11 @@ mod graphs;
 mod levels;
 mod limits;
 mod linting;
+mod locks;
 mod named;
 mod other_rustc;
 mod replacing;
+mod reports;
 mod roots;
 mod styles;
 mod target_names;
@@ -29,12 +31,15 @@ use std::rt::{Env, Files};
 use styles::Shown;
 use words::words_given;
 
+/// The version of the program.
+const VERSION: &str = "0.1.0";
+
 /// The first text in the parentheses after the version. In an unproved build it is `unproved build, `.
 const BUILD: &str = "";
 
 /// Returns the version, with that of the table of known targets.
 fn version(alloc: Global) -> Result<String, AllocError> {
-    format!(in alloc; "0.1.0 ({BUILD}targets and facts of rustc {RUSTC_VERSION})")
+    format!(in alloc; "{VERSION} ({BUILD}targets and facts of rustc {RUSTC_VERSION})")
 }
 
 /// Runs the command line, prints the output, and returns the exit status.

@@ -28,6 +28,8 @@ enum Part {
     List,
     /// An entry of such a list.
     Entry,
+    /// A part of a document that is no manifest: each name and each element is recorded.
+    Any,
     /// A part in which no name is recorded.
     Other,
 }
@@ -83,6 +85,7 @@ impl Part {
     /// Returns the part of this part that has this name.
     fn member(self, name: &str) -> Part {
         match self {
+            Part::Any => Part::Any,
             Part::Top => at_top(name),
             Part::Target => Part::Key,
             Part::Key => Part::Field,
@@ -107,6 +110,14 @@ impl Within {
         }
     }
 
+    /// Returns a whole document that is no manifest.
+    pub fn any(alloc: Global) -> Within {
+        Within {
+            part: Part::Any,
+            path: String::new(alloc),
+        }
+    }
+
     /// Returns a part in which no name is recorded.
     pub fn other(alloc: Global) -> Within {
         Within {
@@ -115,7 +126,7 @@ impl Within {
         }
     }
 
-    /// Returns the part of this name. The path of a key of `target` is still empty. Fails if memory is refused.
+    /// Returns the part of this name. The path of a key of `target` is still empty. Fails if an allocation fails.
     pub fn member(&self, alloc: Global, name: &str) -> Result<Within, AllocError> {
         let part = self.part.member(name);
         match (self.part, part) {
@@ -135,18 +146,18 @@ impl Within {
         }
     }
 
-    /// Returns the element of an array at an index. Fails if memory is refused.
+    /// Returns the element of an array at an index. Fails if an allocation fails.
     pub fn element(&self, alloc: Global, index: usize) -> Result<Within, AllocError> {
-        match self.part {
-            Part::List => {
-                let name = format!(in alloc; "{index}")?;
-                Ok(Within {
-                    part: Part::Entry,
-                    path: path_behind(alloc, self.path.as_str(), name.as_str())?,
-                })
-            }
-            _ => Ok(Within::other(alloc)),
-        }
+        let part = match self.part {
+            Part::List => Part::Entry,
+            Part::Any => Part::Any,
+            _ => return Ok(Within::other(alloc)),
+        };
+        let name = format!(in alloc; "{index}")?;
+        Ok(Within {
+            part,
+            path: path_behind(alloc, self.path.as_str(), name.as_str())?,
+        })
     }
 
     /// Returns whether the part is the whole manifest.
@@ -164,9 +175,15 @@ impl Within {
         self.part == Part::Field
     }
 
-    /// Returns whether the part is an entry of a list in the metadata.
+    /// Returns whether the place of a text in the part is recorded: in an entry of a list in the metadata, and in a
+    /// document that is no manifest.
     pub fn is_entry(&self) -> bool {
-        self.part == Part::Entry
+        self.part == Part::Entry || self.part == Part::Any
+    }
+
+    /// Returns whether the part is in a document that is no manifest.
+    pub fn is_any(&self) -> bool {
+        self.part == Part::Any
     }
 
     /// Returns whether a name in the part is recorded whatever its value is. `member` is the part that has this name.
@@ -177,14 +194,14 @@ impl Within {
             Part::Dependencies => is_odd_package(name),
             Part::Package | Part::Workspace => name == "target",
             Part::Metadata => is_tool(name),
-            Part::Settings => true,
+            Part::Settings | Part::Any => true,
             _ => false,
         }
     }
 }
 
 /// Returns the path of the key of `target` with so many keys before it. It does not contain the key, since a key may be
-/// long and have many fields. Fails if memory is refused.
+/// long and have many fields. Fails if an allocation fails.
 pub fn path_of_key(alloc: Global, place: usize) -> Result<String, AllocError> {
     format!(in alloc; "target {place} ")
 }

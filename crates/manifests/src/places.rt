@@ -67,6 +67,8 @@ struct Walk<'a> {
     open: Vec<OpenValue>,
     /// The table of the last header.
     within: Within,
+    /// True if the document is no manifest, and each name and each element is recorded.
+    records_all: bool,
 }
 
 /// The value that a key has, and the place of the last name of the key.
@@ -104,6 +106,15 @@ impl From<ParseError> for Stop {
     }
 }
 
+/// Returns the whole document: one that is no manifest, if each name is recorded.
+fn top_of(alloc: Global, records_all: bool) -> Within {
+    if records_all {
+        Within::any(alloc)
+    } else {
+        Within::top(alloc)
+    }
+}
+
 /// Returns a copy of places, if there are any.
 fn copied(alloc: Global, places: Option<&Vec<Location>>) -> Result<Vec<Location>, AllocError> {
     match places {
@@ -130,14 +141,27 @@ fn note_again(
 }
 
 impl Places {
-    /// Returns the places in the text of a manifest. Fails if memory is refused.
+    /// Returns the places in the text of a manifest. Fails if an allocation fails.
     pub fn of(alloc: Global, text: &str) -> Result<Places, AllocError> {
+        Places::walked(alloc, text, false)
+    }
+
+    /// Returns the places of all names in the text of a document that is no manifest, and of the elements of its
+    /// arrays, which `at_path` has: those of texts, and of tables after `[[..]]` by their headers. Fails if an
+    /// allocation fails.
+    pub fn of_all(alloc: Global, text: &str) -> Result<Places, AllocError> {
+        Places::walked(alloc, text, true)
+    }
+
+    /// Returns the places in a text: of all names, or of those on which `lint` reports.
+    fn walked(alloc: Global, text: &str, records_all: bool) -> Result<Places, AllocError> {
         let mut walk = Walk {
             alloc,
             cursor: Cursor::new(text),
             places: Places::none(alloc),
             open: Vec::new(alloc),
-            within: Within::top(alloc),
+            within: top_of(alloc, records_all),
+            records_all,
         };
         'steps: for _ in 0..text.len() {
             match walk.step() {
@@ -198,18 +222,26 @@ impl Places {
         self.others.get(path).copied()
     }
 
-    /// Returns the later places of a key of `target`, in the order of the text. Fails if memory is refused.
+    /// Returns the later places of a key of `target`, in the order of the text. Fails if an allocation fails.
     pub fn again_at_key(&self, alloc: Global, key: &str) -> Result<Vec<Location>, AllocError> {
         copied(alloc, self.keys_again.get(key))
     }
 
-    /// Returns the later places of the name at a path, in the order of the text, if they are recorded. Fails if memory
-    /// is refused.
+    /// Returns the later places of the name at a path, in the order of the text, if they are recorded. Fails if an
+    /// allocation fails.
     pub fn again_at_path(&self, alloc: Global, path: &str) -> Result<Vec<Location>, AllocError> {
         copied(alloc, self.others_again.get(path))
     }
 
-    /// Returns the path of a field of a key of `target`. Fails if memory is refused.
+    /// Returns the number of later places of the name at a path.
+    fn count_again(&self, path: &str) -> usize {
+        match self.others_again.get(path) {
+            Some(places) => places.len(),
+            None => 0,
+        }
+    }
+
+    /// Returns the path of a field of a key of `target`. Fails if an allocation fails.
     pub fn path_of_field(
         &self,
         alloc: Global,
@@ -220,8 +252,8 @@ impl Places {
         path_behind(alloc, path.as_str(), field)
     }
 
-    /// Returns the place of a field of a key of `target`, if it is recorded. Dependency tables are not. Fails if memory
-    /// is refused.
+    /// Returns the place of a field of a key of `target`, if it is recorded. Dependency tables are not. Fails if an
+    /// allocation fails.
     pub fn at_field(
         &self,
         alloc: Global,
@@ -372,17 +404,30 @@ impl<'a> Walk<'a> {
             self.take(b'[')?;
         }
         self.skip_spaces();
-        let named = self.names(&Within::top(self.alloc))?;
+        let named = self.names(&top_of(self.alloc, self.records_all))?;
         self.take(b']')?;
         if is_array {
             self.take(b']')?;
         }
         self.within = if is_array {
-            Within::other(self.alloc)
+            self.table_of_array(&named)?
         } else {
             named.within
         };
         Ok(())
+    }
+
+    /// Returns the table behind a header with two brackets, whose place is recorded in a document that is no manifest.
+    /// Its index is the number of such headers before it.
+    fn table_of_array(&mut self, named: &Named) -> Result<Within, Stop> {
+        if !named.within.is_any() {
+            return Ok(Within::other(self.alloc));
+        }
+        let index = self.places.count_again(named.within.path.as_str());
+        let table = named.within.element(self.alloc, index)?;
+        self.places
+            .note_other(self.alloc, table.path.as_str(), named.last)?;
+        Ok(table)
     }
 
     /// Reads `=` after a key, and the beginning of its value.
@@ -462,7 +507,7 @@ impl<'a> Walk<'a> {
     }
 }
 
-/// Returns a path as one text, which differs from that of every other path. Fails if memory is refused.
+/// Returns a path as one text, which differs from that of every other path. Fails if an allocation fails.
 pub fn path_of(alloc: Global, names: &[&str]) -> Result<String, AllocError> {
     let mut path = String::new(alloc);
     for name in names {

@@ -15,11 +15,11 @@ subjects-preserved c =
     let items = λ (v : Vec Told Global). v.items in
     elim c.match-branch-2.branch [
       | in-Some+in_ok-push w ↦
-          goes_on_told entries c.args.exceptions.now c.args.subjects.now c.subjects.i c.subjects.told.items
-          c.match-branch-2.told.items (record { place = c.subjects.i; finding = w.in-Some.found }) c.subjects-test.true
+          goes_on_told entries c.args.exceptions.now c.args.subjects.now c.subjects.i c.index-subjects-i.result c.subjects.told.items
+          c.match-branch-2.told.items (record { place = c.subjects.i; finding = w.in-Some.found }) c.subjects-test.true c.index-subjects-i.is
           (ap items w.told-is ∙ w.in_ok-push.ensures.items) refl c.subjects.invariant (rw w.in-Some.is at found)
       | in_default w ↦
-          goes_on_passed entries c.args.exceptions.now c.args.subjects.now c.subjects.i c.subjects.told.items
-          c.match-branch-2.told.items c.subjects-test.true (ap items w.told-is) c.subjects.invariant
+          goes_on_passed entries c.args.exceptions.now c.args.subjects.now c.subjects.i c.index-subjects-i.result c.subjects.told.items
+          c.match-branch-2.told.items c.subjects-test.true c.index-subjects-i.is (ap items w.told-is) c.subjects.invariant
           (rw w.in_default.is at found)
     ]

@@ -1,0 +1,25 @@
+//! Software bills of materials: CycloneDX 1.5 documents in JSON, with package URLs, serial numbers that are made from
+//! the content, and checksums from lock files of Cargo.
+#![tactic(auto)]
+
+mod document;
+pub mod laws;
+mod lock;
+mod purl;
+mod reading;
+mod relations;
+mod serial;
+mod sources;
+#[cfg(test)]
+mod tests;
+
+pub use document::{
+    Bom, BomMetadata, Component, ExternalReference, Hash, LicenceChoice, LicenceName, LicenceText,
+    NamedLicence, Property, ToolComponent, Tools,
+};
+pub use lock::{LockFile, Locked};
+pub use purl::package_url;
+pub use reading::{LockError, LockFault, read_lock};
+pub use relations::{Edge, Node, Relation, relations_of};
+pub use serial::serial_number;
+pub use sources::Source;

@@ -1,0 +1,139 @@
+//! `--policy`: the arguments that a policy stands for, and its table of licences.
+
+use crate::asked::{Requested, Words};
+use cargo_platform::{shown_start, shown_text};
+use key_answers::answer::Refusal;
+use known_targets::{KnownTarget, RUSTC_VERSION};
+use licence_audits::PackageSpec;
+use licence_policies::{GraphTable, LicenceTable, Policy, PolicySource};
+use lint_reports::Weight;
+use std::alloc::{AllocError, Global};
+use std::mem;
+
+/// What a policy says of licences.
+#[derive(Drop)]
+pub struct AuditPolicy {
+    pub table: LicenceTable,
+    pub source: PolicySource,
+    /// The packages that are not in the graph.
+    pub excluded: Vec<PackageSpec>,
+    /// The warnings and notes on the policy.
+    pub messages: String,
+}
+
+/// A policy of the arguments.
+#[derive(Drop)]
+pub struct GivenPolicy {
+    pub graph: GraphTable,
+    pub audit: AuditPolicy,
+}
+
+/// Returns the diagnostics on the targets of a policy that rustc does not know.
+fn unknown_targets(
+    alloc: Global,
+    graph: &GraphTable,
+    source: &PolicySource,
+) -> Result<String, AllocError> {
+    let mut text = String::new(alloc);
+    for (name, at) in &graph.targets {
+        if KnownTarget::by_name(name.as_str()).is_none() {
+            let shown = shown_start(alloc, name.as_str())?;
+            let message = format!(in alloc;
+                "no target that rustc {RUSTC_VERSION} knows is named `{shown}`"
+            )?;
+            let rendered = source.report(alloc, Weight::Error, *at, message)?;
+            text.push_str(rendered.as_str())?;
+        }
+    }
+    Ok(text)
+}
+
+/// Reads the policy of the arguments, if there is one. Refuses one with an error, and a target that rustc does not know
+/// if the targets of the policy are used.
+pub fn policy_of(alloc: Global, words: &Words<'_>) -> Result<Option<GivenPolicy>, Refusal> {
+    let Some((file, text)) = words.policy else {
+        return Ok(None);
+    };
+    let file = shown_text(alloc, file)?;
+    let policy = Policy::read(alloc, file.as_str(), text)?;
+    let messages = policy.rendered(alloc)?;
+    if !policy.is_valid() {
+        return Err(Refusal::Unusable(messages));
+    }
+    let Policy {
+        graph,
+        licences,
+        source,
+        diagnostics: _,
+    } = policy;
+    if words.targets.is_empty() && words.facts_of.is_none() {
+        let unknown = unknown_targets(alloc, &graph, &source)?;
+        if !unknown.is_empty() {
+            return Err(Refusal::Unusable(unknown));
+        }
+    }
+    let mut graph = graph;
+    let excluded = mem::replace(&mut graph.excluded, Vec::new(alloc));
+    let audit = AuditPolicy {
+        table: licences,
+        source,
+        excluded,
+        messages,
+    };
+    Ok(Some(GivenPolicy { graph, audit }))
+}
+
+/// The names in the table `[graph]` of a policy.
+#[derive(Drop)]
+pub struct GraphNames<'p> {
+    targets: Vec<&'p str>,
+    features: Vec<&'p str>,
+}
+
+impl<'p> GraphNames<'p> {
+    /// Returns the names in a table.
+    pub fn of(alloc: Global, graph: &'p GraphTable) -> Result<GraphNames<'p>, AllocError> {
+        let mut targets = Vec::new(alloc);
+        for (name, _) in &graph.targets {
+            targets.push(name.as_str())?;
+        }
+        let mut features = Vec::new(alloc);
+        for name in &graph.features {
+            features.push(name.as_str())?;
+        }
+        Ok(GraphNames { targets, features })
+    }
+
+    /// Returns the arguments with those that the policy stands for. Targets, dependency kinds and features of the
+    /// command line replace those of the policy.
+    pub fn words(&'p self, words: &Words<'p>, graph: &GraphTable, includes_dev: bool) -> Words<'p> {
+        let targets = if words.targets.is_empty() {
+            self.targets.as_slice()
+        } else {
+            words.targets
+        };
+        let has_dev = includes_dev && !graph.excludes_dev;
+        let edges = words.edges.unwrap_or(if has_dev {
+            "normal,build,dev"
+        } else {
+            "normal,build"
+        });
+        let given = words.requested;
+        let requested = if given.features.is_empty() && !given.no_default && !given.all_features {
+            Requested {
+                resolver: given.resolver,
+                features: self.features.as_slice(),
+                no_default: graph.no_default_features,
+                all_features: graph.all_features,
+            }
+        } else {
+            given
+        };
+        Words {
+            targets,
+            edges: Some(edges),
+            requested,
+            ..*words
+        }
+    }
+}

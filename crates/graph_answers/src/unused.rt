@@ -1,0 +1,118 @@
+//! Allowed licences and exceptions that no package needs.
+
+use crate::licences::Audit;
+use crate::lines::push;
+use crate::policies::AuditPolicy;
+use cargo_platform::shown_start;
+use key_answers::answer::{Answer, Status};
+use licence_audits::{Subject, is_unused_entry, is_unused_exception};
+use licence_policies::UnusedLevel;
+use lint_reports::Weight;
+use manifests::places::Location;
+use spdx_expressions::Licence;
+use std::alloc::{AllocError, Global};
+use std::slice;
+
+/// Returns the weight of a diagnostic of this level, or `None` if there is none.
+fn weight_of(level: UnusedLevel) -> Option<Weight> {
+    match level {
+        UnusedLevel::Allow => None,
+        UnusedLevel::Warn => Some(Weight::Warning),
+        UnusedLevel::Deny => Some(Weight::Error),
+    }
+}
+
+/// Adds a diagnostic on an entry of a policy to an answer. An error makes the run fail.
+fn report_entry(
+    answer: &mut Answer,
+    alloc: Global,
+    policy: &AuditPolicy,
+    weight: Weight,
+    at: Option<Location>,
+    message: &str,
+) -> Result<(), AllocError> {
+    if weight == Weight::Error {
+        answer.raise(Status::Found);
+    }
+    let message = String::from_str(alloc, message)?;
+    let text = policy.source.report(alloc, weight, at, message)?;
+    push(&mut answer.errors, text.as_str())
+}
+
+/// Adds diagnostics on the allowed licences of a policy that no package has.
+fn report_licences(
+    answer: &mut Answer,
+    alloc: Global,
+    policy: &AuditPolicy,
+    licences: &[Licence],
+    subjects: &[Subject<'_>],
+) -> Result<(), AllocError> {
+    let Some(weight) = weight_of(policy.table.unused_licences) else {
+        return Ok(());
+    };
+    for (licence, at) in licences.iter().zip(policy.table.allowed_at.iter()) {
+        if is_unused_entry(alloc, slice::from_ref(licence), subjects)? {
+            let message = "no package has this licence";
+            report_entry(answer, alloc, policy, weight, *at, message)?;
+        }
+    }
+    Ok(())
+}
+
+/// Adds diagnostics on the exceptions of a policy that no package needs.
+fn report_exceptions(
+    answer: &mut Answer,
+    alloc: Global,
+    policy: &AuditPolicy,
+    audit: &Audit<'_>,
+    subjects: &[Subject<'_>],
+) -> Result<(), AllocError> {
+    let Some(weight) = weight_of(policy.table.unused_exceptions) else {
+        return Ok(());
+    };
+    for (exception, at) in audit
+        .exceptions
+        .iter()
+        .zip(policy.table.exceptions_at.iter())
+    {
+        if is_unused_exception(alloc, exception, subjects)? {
+            let message = "no package needs this exception";
+            report_entry(answer, alloc, policy, weight, *at, message)?;
+        }
+    }
+    Ok(())
+}
+
+/// Adds a warning for each `--except` that no package needs.
+fn report_arguments(
+    answer: &mut Answer,
+    alloc: Global,
+    audit: &Audit<'_>,
+    subjects: &[Subject<'_>],
+) -> Result<(), AllocError> {
+    let of_policy = audit.exceptions.len().saturating_sub(audit.except.len());
+    let exceptions = audit.exceptions.get(of_policy..).unwrap_or(&[]);
+    for (exception, word) in exceptions.iter().zip(audit.except.iter()) {
+        if is_unused_exception(alloc, exception, subjects)? {
+            let shown = shown_start(alloc, word)?;
+            let line = format!(in alloc; "warning: --except: no package needs `{shown}`\n")?;
+            push(&mut answer.errors, line.as_str())?;
+        }
+    }
+    Ok(())
+}
+
+/// Adds diagnostics on what no package needs: allowed licences and exceptions of the policy, and exceptions of the
+/// arguments.
+pub fn report_unused(
+    answer: &mut Answer,
+    alloc: Global,
+    audit: &Audit<'_>,
+    subjects: &[Subject<'_>],
+) -> Result<(), AllocError> {
+    if let Some(policy) = &audit.policy {
+        report_licences(answer, alloc, policy, &audit.licences, subjects)?;
+        report_exceptions(answer, alloc, policy, audit, subjects)?;
+    }
+    report_arguments(answer, alloc, audit, subjects)
+}

@@ -1,0 +1,152 @@
+//! `--show targets`: the classes of targets that no package distinguishes, and the packages of each class.
+
+use cargo_platform::shown_text;
+use graph_queries::asked::Asked;
+use graph_queries::classes::{Class, classes_at};
+use graph_queries::graph::Graph;
+use graph_queries::lines::{joined_names, push, push_comma, shown_count};
+use key_answers::answer::{Answer, Status};
+use key_answers::json_lines;
+use key_answers::targets::At;
+use known_targets::TargetSet;
+use serde::Serialize;
+use std::alloc::{AllocError, Global};
+
+/// A line of `graph --show targets --json`: a class of targets that no package distinguishes.
+#[derive(Drop, Serialize)]
+struct ClassLine<'g, 'c, 'a> {
+    /// The number of the class, from 1 on.
+    class: usize,
+    /// A condition that is true on exactly these of the selected targets.
+    condition: Option<&'c str>,
+    /// The number of targets in `at`.
+    targets: usize,
+    /// The selected targets of the class.
+    at: At<'a>,
+    /// The ids of the packages that are in the build on the targets of the class.
+    packages: Vec<&'g str>,
+}
+
+/// Returns the output of `--show targets`.
+pub fn show_targets(
+    alloc: Global,
+    graph: &Graph<'_>,
+    asked: &Asked<'_>,
+) -> Result<Answer, AllocError> {
+    let mut answer = Answer::of(alloc, String::new(alloc), Status::Fine);
+    let classes = classes_at(alloc, graph, asked)?;
+    for class in &classes {
+        if asked.json {
+            push_object(&mut answer.output, alloc, graph, class, asked)?;
+        } else {
+            push_line(&mut answer.output, alloc, class, asked)?;
+        }
+    }
+    if !asked.json {
+        push_table(&mut answer.output, alloc, graph, &classes)?;
+        let count = classes.len();
+        let line = format!(in alloc; "{count} classes\n")?;
+        push(&mut answer.errors, line.as_str())?;
+    }
+    Ok(answer)
+}
+
+/// Appends the line of a class.
+fn push_line(
+    text: &mut String,
+    alloc: Global,
+    class: &Class,
+    asked: &Asked<'_>,
+) -> Result<(), AllocError> {
+    let number = class.number;
+    let count = shown_count(alloc, asked.count_of(class.targets))?;
+    let names = joined_names(alloc, class.targets, asked)?;
+    let line = match &class.condition {
+        Some(condition) => {
+            let condition = shown_text(alloc, condition.as_str())?;
+            format!(in alloc; "class {number}: {count} where {condition}: {names}\n")?
+        }
+        None => format!(in alloc; "class {number}: {count}: {names}\n")?,
+    };
+    push(text, line.as_str())
+}
+
+/// Appends a line for each package, with the classes on which it is in the build.
+fn push_table(
+    text: &mut String,
+    alloc: Global,
+    graph: &Graph<'_>,
+    classes: &[Class],
+) -> Result<(), AllocError> {
+    for i in &graph.order {
+        let package = graph.shown(alloc, *i)?;
+        push(text, package.as_str())?;
+        push_classes(text, alloc, graph.present(*i), classes)?;
+    }
+    Ok(())
+}
+
+/// Appends the numbers of the classes on which a package is in the build, and a line end.
+fn push_classes(
+    text: &mut String,
+    alloc: Global,
+    targets: TargetSet,
+    classes: &[Class],
+) -> Result<(), AllocError> {
+    let mut count: usize = 0;
+    let mut numbers = String::new(alloc);
+    for class in classes {
+        if class.targets.intersection(targets).is_empty() {
+            continue;
+        }
+        push_comma(&mut numbers, count == 0)?;
+        let number = class.number;
+        push(&mut numbers, format!(in alloc; "{number}")?.as_str())?;
+        count = count.saturating_add(1);
+    }
+    if count == 0 {
+        push(text, ": nowhere\n")
+    } else if count == classes.len() {
+        push(text, ": all\n")
+    } else {
+        push(text, ": ")?;
+        push(text, numbers.as_str())?;
+        push(text, "\n")
+    }
+}
+
+/// Returns the ids of the packages that are in the build on a target of a class.
+fn ids_at<'a>(
+    alloc: Global,
+    graph: &Graph<'a>,
+    targets: TargetSet,
+) -> Result<Vec<&'a str>, AllocError> {
+    let mut ids = Vec::new(alloc);
+    for i in &graph.order {
+        if graph.present(*i).intersection(targets).is_empty() {
+            continue;
+        }
+        if let Some(described) = graph.described(*i) {
+            ids.push(described.id)?;
+        }
+    }
+    Ok(ids)
+}
+
+/// Appends the line of JSON for a class.
+fn push_object(
+    text: &mut String,
+    alloc: Global,
+    graph: &Graph<'_>,
+    class: &Class,
+    asked: &Asked<'_>,
+) -> Result<(), AllocError> {
+    let line = ClassLine {
+        class: class.number,
+        condition: class.condition.as_ref().map(|text| text.as_str()),
+        targets: asked.count_of(class.targets),
+        at: asked.at(alloc, class.targets)?,
+        packages: ids_at(alloc, graph, class.targets)?,
+    };
+    json_lines::push_spaced_line(text, alloc, &line)
+}

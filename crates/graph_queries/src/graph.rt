@@ -1,0 +1,255 @@
+//! A graph of packages, with the targets on which each package is in the build.
+
+use crate::asked::Asked;
+use crate::lines::{shown, shown_package};
+use crate::resolving::Features;
+use crate::sides::{BySide, is_selected};
+use cargo_metadata::graphs::Linked;
+use cargo_metadata::{Metadata, Package as Described};
+use known_targets::TargetSet;
+use package_graphs::{Dependency, PackageSets, Side, present_packages};
+use std::alloc::{AllocError, Global};
+
+/// A dependency graph, with the targets on which each package is in the build.
+#[derive(Drop)]
+pub struct Graph<'a> {
+    pub metadata: Metadata<'a>,
+    pub linked: Linked<'a>,
+    /// The folder of the workspace, if the document names it.
+    pub workspace: Option<&'a str>,
+    pub sets: PackageSets,
+    /// The selected side, or `None` for both.
+    pub side: Option<Side>,
+    /// The indexes of the packages, sorted by name, version and id.
+    pub order: Vec<usize>,
+    /// For each package whether another one has its name and version.
+    pub twins: Vec<bool>,
+    /// The resolved features, if feature resolution is requested.
+    pub features: Option<Features<'a>>,
+}
+
+impl<'a> Graph<'a> {
+    /// Returns a graph without resolved features, with the targets of its packages for a query. Fails if memory is
+    /// refused.
+    pub fn of(
+        alloc: Global,
+        metadata: Metadata<'a>,
+        linked: Linked<'a>,
+        asked: &Asked<'_>,
+    ) -> Result<Graph<'a>, AllocError> {
+        let sets = present_packages(alloc, &linked.packages, asked.kinds, asked.host)?;
+        let order = in_order(alloc, &linked.described)?;
+        let twins = twins_of(alloc, &linked.described, &order)?;
+        Ok(Graph {
+            metadata,
+            linked,
+            workspace: None,
+            sets,
+            side: asked.side,
+            order,
+            twins,
+            features: None,
+        })
+    }
+
+    /// Returns the selected targets on which a package is in the build.
+    pub fn at(&self, index: usize, asked: &Asked<'_>) -> TargetSet {
+        self.built(index, asked).targets()
+    }
+
+    /// Returns the targets on which a package is in the build, for a selected side.
+    pub fn present(&self, index: usize) -> TargetSet {
+        let target = self.present_on(index, Side::Target);
+        target.union(self.present_on(index, Side::Host))
+    }
+
+    /// Returns the selected targets on which a package is in the build, for each selected side.
+    pub fn built(&self, index: usize, asked: &Asked<'_>) -> BySide {
+        let built = BySide {
+            target: self.present_on(index, Side::Target),
+            host: self.present_on(index, Side::Host),
+        };
+        built.within(asked.targets)
+    }
+
+    /// Returns the targets on which a package is in the build for this side. There are none if it is not selected.
+    fn present_on(&self, index: usize, side: Side) -> TargetSet {
+        if !is_selected(self.side, side) {
+            return TargetSet::none();
+        }
+        match &self.features {
+            Some(features) => features.resolution.used_on(index, side),
+            None => self.sets.on(index, side),
+        }
+    }
+
+    /// Returns the targets on which dependencies lead to a package, for a selected side, whether features leave it out
+    /// or not.
+    pub fn led_to(&self, index: usize) -> TargetSet {
+        match self.side {
+            Some(side) => self.sets.on(index, side),
+            None => self.sets.at(index),
+        }
+    }
+
+    /// Returns the selected targets on which a dependency is followed, for each selected side to which it leads.
+    /// `place` is its index among those of the package.
+    pub fn followed(&self, index: usize, place: usize, asked: &Asked<'_>) -> BySide {
+        let followed = BySide {
+            target: self.following_to(index, place, Side::Target, asked),
+            host: self.following_to(index, place, Side::Host, asked),
+        };
+        followed.within(asked.targets)
+    }
+
+    /// Returns the targets on which a dependency is followed to a package that is built for this side. There are none
+    /// if it is not selected.
+    fn following_to(&self, index: usize, place: usize, side: Side, asked: &Asked<'_>) -> TargetSet {
+        if !is_selected(self.side, side) {
+            return TargetSet::none();
+        }
+        if let Some(features) = &self.features {
+            return features.resolution.using_to(index, place, side);
+        }
+        let packages = &self.linked.packages;
+        match self.dependency(index, place) {
+            Some(dependency) => {
+                self.sets.following_to(packages, asked.kinds, asked.host, index, &dependency, side)
+            }
+            None => TargetSet::none(),
+        }
+    }
+
+    /// Returns the dependency at an index among those of a package.
+    pub fn dependency(&self, index: usize, place: usize) -> Option<Dependency> {
+        self.linked
+            .packages
+            .get(index)?
+            .dependencies
+            .get(place)
+            .copied()
+    }
+
+    /// Returns whether the package at an index is a procedural macro.
+    pub fn is_macro(&self, index: usize) -> bool {
+        match self.linked.packages.get(index) {
+            Some(unit) => unit.is_macro,
+            None => false,
+        }
+    }
+
+    /// Returns the package at a place as it is shown: its name and version, and its source if it has a twin.
+    pub fn shown(&self, alloc: Global, index: usize) -> Result<String, AllocError> {
+        let Some(described) = self.described(index) else {
+            return Ok(String::new(alloc));
+        };
+        let package = shown_package(alloc, described)?;
+        match self.source(index) {
+            Some(source) => {
+                let source = shown(alloc, source)?;
+                format!(in alloc; "{package} ({source})")
+            }
+            None => Ok(package),
+        }
+    }
+
+    /// Returns the source of a package if another one has its name and version.
+    pub fn source(&self, index: usize) -> Option<&'a str> {
+        if self.twins.get(index).copied() != Some(true) {
+            return None;
+        }
+        Some(source_of(self.described(index)?.id))
+    }
+
+    /// Returns the features of a package that are on for a selected target and side, if features are resolved. Fails if
+    /// memory is refused.
+    pub fn features_on(
+        &self,
+        alloc: Global,
+        index: usize,
+        asked: &Asked<'_>,
+    ) -> Result<Vec<&'a str>, AllocError> {
+        let mut names = Vec::new(alloc);
+        let Some(features) = &self.features else {
+            return Ok(names);
+        };
+        let Some(manifest) = features.declarations.manifest(index) else {
+            return Ok(names);
+        };
+        for i in 0..manifest.features.len() {
+            let target = self.feature_on(index, Side::Target, i);
+            let targets = target.union(self.feature_on(index, Side::Host, i));
+            if !targets.intersection(asked.targets).is_empty() {
+                names.push(manifest.features[i].name)?;
+            }
+        }
+        Ok(names)
+    }
+
+    /// Returns the targets on which a feature of a package is on for this side. There are none if it is not selected.
+    fn feature_on(&self, index: usize, side: Side, feature: usize) -> TargetSet {
+        match &self.features {
+            Some(features) if is_selected(self.side, side) => {
+                features.resolution.with_feature(index, side, feature)
+            }
+            _ => TargetSet::none(),
+        }
+    }
+
+    /// Returns the description of the package at an index.
+    pub fn described(&self, index: usize) -> Option<&Described<'a>> {
+        self.linked.described.get(index)
+    }
+}
+
+/// Returns the indexes of the packages, sorted by name, version and id.
+fn in_order(alloc: Global, described: &[Described<'_>]) -> Result<Vec<usize>, AllocError> {
+    let mut keys = Vec::new(alloc);
+    for i in 0..described.len() {
+        let it = &described[i];
+        keys.push(((it.name, it.version), (it.id, i)))?;
+    }
+    keys.sort()?;
+    let mut order = Vec::new(alloc);
+    for (_, (_, i)) in &keys {
+        order.push(*i)?;
+    }
+    Ok(order)
+}
+
+/// Returns for each package whether the one before or after it in order has its name and version.
+fn twins_of(
+    alloc: Global,
+    described: &[Described<'_>],
+    order: &[usize],
+) -> Result<Vec<bool>, AllocError> {
+    let mut twins = vec![in alloc; false; described.len()]?;
+    let mut last = described.len();
+    for place in order {
+        let (first, second) = (last, *place);
+        last = second;
+        let (Some(one), Some(other)) = (described.get(first), described.get(second)) else {
+            continue;
+        };
+        if one.name == other.name && one.version == other.version {
+            if let Some(twin) = twins.get_mut(first) {
+                *twin = true;
+            }
+            if let Some(twin) = twins.get_mut(second) {
+                *twin = true;
+            }
+        }
+    }
+    Ok(twins)
+}
+
+/// Returns the source in an id, `SOURCE#NAME@VERSION` or `NAME VERSION (SOURCE)`; the whole id if there is none.
+pub fn source_of<'a>(id: &'a str) -> &'a str {
+    if let Some((source, _)) = id.split_once('#') {
+        return source;
+    }
+    match id.split_once('(') {
+        Some((_, source)) => source.strip_suffix(")").unwrap_or(source),
+        None => id,
+    }
+}

@@ -1,0 +1,55 @@
+//! The reasons why documents are rejected that lack the edge of a dependency that is on.
+
+use crate::lines::{shown, shown_package};
+use crate::refused::COMMAND;
+use cargo_features::Resolved;
+use declared_features::{
+    Asked as AskedFeatures, Declaring, Lacking, first_filtered, first_lacking,
+};
+use std::alloc::{AllocError, Global};
+
+/// Returns what lacks: the package, and its dependency by the name in its manifest.
+fn shown_lack(
+    alloc: Global,
+    graph: &Declaring<'_, '_>,
+    lacking: &Lacking<'_, '_>,
+) -> Result<String, AllocError> {
+    let package = match graph.linked.described.get(lacking.node) {
+        Some(described) => shown_package(alloc, described)?,
+        None => String::new(alloc),
+    };
+    let declared = lacking.declared;
+    let name = shown(alloc, declared.rename.unwrap_or(declared.name))?;
+    format!(in alloc; "the file is incomplete: {package} has no edge for its dependency {name}")
+}
+
+/// Returns why a document is rejected, if `--filter-platform` made it.
+pub fn filtered_reason(
+    alloc: Global,
+    graph: &Declaring<'_, '_>,
+) -> Result<Option<String>, AllocError> {
+    let Some(lacking) = first_filtered(alloc, graph)? else {
+        return Ok(None);
+    };
+    let lack = shown_lack(alloc, graph, &lacking)?;
+    let condition = shown(alloc, lacking.declared.condition.unwrap_or(""))?;
+    Ok(Some(format!(in alloc;
+        "{lack} where {condition}: run `{COMMAND}` without `--filter-platform`"
+    )?))
+}
+
+/// Returns why a document is rejected, if it was made with fewer features than the selected ones.
+pub fn lacking_reason<'a>(
+    alloc: Global,
+    graph: &Declaring<'_, 'a>,
+    resolved: &Resolved,
+    asked: &AskedFeatures<'a>,
+) -> Result<Option<String>, AllocError> {
+    let Some(lacking) = first_lacking(alloc, graph, resolved, asked)? else {
+        return Ok(None);
+    };
+    let lack = shown_lack(alloc, graph, &lacking)?;
+    Ok(Some(format!(in alloc;
+        "{lack}, which the selected features turn on: run `{COMMAND} --all-features`"
+    )?))
+}

@@ -1,0 +1,104 @@
+//! The sides from which a dependency leads. A package that is built for both sides may need it for one of them alone,
+//! or on other targets for each.
+
+use crate::asked::Asked;
+use crate::graph::Graph;
+use crate::sides::BySide;
+use cargo_features::{Claim, Dependency as Declared, Resolved};
+use known_targets::{KnownTarget, TargetSet};
+use package_graphs::{Dependency, Side};
+use std::alloc::{AllocError, Global};
+
+/// A side from which a dependency leads.
+#[derive(Clone, Copy, Drop)]
+pub struct Leading {
+    /// The side for which the package that has the dependency is built.
+    pub from: Side,
+    /// The side to which the dependency leads from there.
+    pub to: Side,
+    /// The selected targets on which it leads from there.
+    pub targets: TargetSet,
+}
+
+/// Returns the targets on which the condition of a dependency is true from a side. If it is evaluated on the host,
+/// these are all or none.
+fn holds_from(side: Side, dependency: &Dependency, host: Option<KnownTarget>) -> TargetSet {
+    let Some(host) = host else {
+        return dependency.holds;
+    };
+    if !side.asks_host(dependency.kind) {
+        dependency.holds
+    } else if dependency.holds.contains(host) {
+        TargetSet::all()
+    } else {
+        TargetSet::none()
+    }
+}
+
+/// Returns the targets on which a package that is built for the side `from` uses its dependency at an index.
+pub fn using_from(
+    resolved: &Resolved,
+    index: usize,
+    place: usize,
+    dependency: &Declared,
+    from: Side,
+) -> TargetSet {
+    let build = resolved.build();
+    let way = build.way(resolved.packages(), from, dependency);
+    let used = resolved.at(Claim::Used(index, from));
+    let targets = used.intersection(way.condition.targets(build.host));
+    if !dependency.is_optional {
+        return targets;
+    }
+    let on = resolved.at(Claim::Dependency(index, build.feature_side(from), place));
+    targets.intersection(on)
+}
+
+/// Returns the targets on which a package that is built for a side needs a dependency. `place` is its index among those
+/// of the package.
+fn needed_for(
+    graph: &Graph<'_>,
+    (index, place): (usize, usize),
+    dependency: &Dependency,
+    side: Side,
+    host: Option<KnownTarget>,
+) -> TargetSet {
+    match &graph.features {
+        Some(features) => features.resolution.using_from(index, place, side),
+        None => {
+            let holds = holds_from(side, dependency, host);
+            graph.sets.on(index, side).intersection(holds)
+        }
+    }
+}
+
+/// Returns the origins of a dependency that is followed on these targets. `place` is its index among those of the
+/// package. Fails if memory is refused.
+pub fn origins_of(
+    alloc: Global,
+    graph: &Graph<'_>,
+    (index, place): (usize, usize),
+    followed: BySide,
+    asked: &Asked<'_>,
+) -> Result<Vec<Leading>, AllocError> {
+    let mut origins = Vec::new(alloc);
+    let Some(dependency) = graph.dependency(index, place) else {
+        return Ok(origins);
+    };
+    let to = Side::Target.after(dependency.kind, graph.is_macro(dependency.to));
+    // A dependency leads from the host to the host. From the target it leads to `to`.
+    let (mut target, mut host) = (followed.target, followed.host);
+    if to.is_same(Side::Host) {
+        let place = (index, place);
+        let needed = needed_for(graph, place, &dependency, Side::Target, asked.host);
+        target = needed.intersection(followed.host);
+        let needed = needed_for(graph, place, &dependency, Side::Host, asked.host);
+        host = needed.intersection(followed.host);
+    }
+    for (from, to, targets) in [(Side::Target, to, target), (Side::Host, Side::Host, host)] {
+        if !targets.is_empty() {
+            origins.push(Leading { from, to, targets })?;
+        }
+    }
+    Ok(origins)
+}

@@ -1,0 +1,183 @@
+//! Errors of documents that cannot be used: the path in the document, the reason, and the package.
+
+ghost use Rattle.std.specs.Prelude.{◌≡◌, false, OnOk};
+ghost use Rattle.cargo_metadata.specs.Documents.{is_memory};
+ghost use Rattle.cargo_metadata.specs.Refusals.{is_memory as is_memory_of_graph};
+
+use crate::lines::{push, shown};
+use cargo_metadata::graphs::{InDependency, Refusal as Unlinked};
+use cargo_metadata::{InResolve, Metadata, Refusal, Wanted};
+use cargo_platform::ParseError;
+use input_limits::{deep_at, deep_text};
+pub use key_answers::answer::unusable;
+use key_answers::printing::refused_key;
+use serde_json::Value;
+use std::alloc::{AllocError, Global};
+
+/// The command that prints a complete document, as far as it is always the same.
+pub const COMMAND: &str = "cargo metadata --format-version 1";
+
+/// Appends to a reason the package that it is about, if one is known.
+fn about(alloc: Global, reason: String, subject: Option<&str>) -> Result<String, AllocError> {
+    match subject {
+        Some(subject) => {
+            let subject = shown(alloc, subject)?;
+            format!(in alloc; "{reason}, of {subject}")
+        }
+        None => Ok(reason),
+    }
+}
+
+/// Returns the text in a field of an element of a list.
+fn text_in<'a>(list: Option<&'a Value>, index: usize, field: &str) -> Option<&'a str> {
+    let items = list?.as_array()?;
+    items.get(index)?.get(field)?.as_str()
+}
+
+/// Returns the package that a refusal is about: its name, or the id of its node.
+fn subject_of<'a>(document: &'a Value, refusal: &Refusal) -> Option<&'a str> {
+    match refusal {
+        Refusal::Package(i, _) => text_in(document.get("packages"), *i, "name"),
+        Refusal::Resolve(InResolve::Node(i, _)) => {
+            let resolve = document.get("resolve")?;
+            text_in(resolve.get("nodes"), *i, "id")
+        }
+        _ => None,
+    }
+}
+
+/// Adds the command that prints a graph to the reason why a document without one is rejected.
+fn with_command(alloc: Global, reason: String, refusal: &Refusal) -> Result<String, AllocError> {
+    match refusal {
+        Refusal::Field(wrong) if matches!(wrong.wanted, Wanted::Resolve) => {
+            format!(in alloc; "{reason}: run `{COMMAND}` without it")
+        }
+        _ => Ok(reason),
+    }
+}
+
+/// Formats why a document is not the output of `cargo metadata`. Fails if memory is refused, and if that is what
+/// `refusal` reports.
+pub fn document_reason(
+    alloc: Global,
+    document: &Value,
+    refusal: &Refusal,
+) -> Result<String, AllocError>
+    ensures memory { OnOk result (is_memory refusal.now ≡ false) }
+{
+    if refusal.is_memory() {
+        return Err(AllocError);
+    }
+    let reason = format!(in alloc; "{refusal}")?;
+    let reason = with_command(alloc, reason, refusal)?;
+    about(alloc, reason, subject_of(document, refusal))
+}
+
+/// Returns the id of a package.
+fn id_of_package<'a>(metadata: &Metadata<'a>, i: usize) -> Option<&'a str> {
+    Some(metadata.packages.get(i)?.id)
+}
+
+/// Returns the id of a node.
+fn id_of_node<'a>(metadata: &Metadata<'a>, i: usize) -> Option<&'a str> {
+    Some(metadata.nodes.get(i)?.id)
+}
+
+/// Returns the id on which a node depends.
+fn id_depended_on<'a>(metadata: &Metadata<'a>, i: usize, j: usize) -> Option<&'a str> {
+    Some(metadata.nodes.get(i)?.dependencies.get(j)?.on)
+}
+
+/// Returns the id that a refusal is about.
+fn id_of<'a>(metadata: &Metadata<'a>, refusal: &Unlinked) -> Option<&'a str> {
+    match refusal {
+        Unlinked::SamePackage { again, .. } => id_of_package(metadata, *again),
+        Unlinked::NoPackage(i) => id_of_node(metadata, *i),
+        Unlinked::SameNode { again, .. } => id_of_node(metadata, *again),
+        Unlinked::NoMember(i) => metadata.members.get(*i).copied(),
+        Unlinked::Dependency(i, j, InDependency::NoNode) => id_depended_on(metadata, *i, *j),
+        Unlinked::Dependency(i, _, _) => id_of_node(metadata, *i),
+        Unlinked::Memory(_) => None,
+    }
+}
+
+/// Returns the text of the condition at these indexes.
+fn condition_at<'a>(metadata: &Metadata<'a>, i: usize, j: usize, k: usize) -> Option<&'a str> {
+    let dependency = metadata.nodes.get(i)?.dependencies.get(j)?;
+    dependency.kinds.get(k)?.condition
+}
+
+/// Returns the first condition of a document that is nested too deep: its indexes, and the byte at which the limit is
+/// exceeded.
+fn first_deep(metadata: &Metadata<'_>) -> Option<((usize, usize, usize), usize)> {
+    for (i, node) in metadata.nodes.iter().enumerate() {
+        for (j, dependency) in node.dependencies.iter().enumerate() {
+            for (k, row) in dependency.kinds.iter().enumerate() {
+                let Some(condition) = row.condition else {
+                    continue;
+                };
+                if let Some(at) = deep_at(condition) {
+                    return Some(((i, j, k), at));
+                }
+            }
+        }
+    }
+    None
+}
+
+/// Formats why the condition at these indexes is refused: at byte `at`, it is nested too deep.
+fn deep_reason(
+    alloc: Global,
+    metadata: &Metadata<'_>,
+    places: (usize, usize, usize),
+    at: usize,
+) -> Result<String, AllocError> {
+    let (i, j, k) = places;
+    let reason = deep_text(alloc, at)?;
+    let reason = format!(in alloc;
+        "resolve.nodes[{i}].deps[{j}].dep_kinds[{k}].target: the text is {reason}"
+    )?;
+    about(alloc, reason, id_of_node(metadata, i))
+}
+
+/// Returns why a document is rejected, if it has a condition that is nested too deep.
+pub fn depth_reason(alloc: Global, metadata: &Metadata<'_>) -> Result<Option<String>, AllocError> {
+    match first_deep(metadata) {
+        Some((places, at)) => Ok(Some(deep_reason(alloc, metadata, places, at)?)),
+        None => Ok(None),
+    }
+}
+
+/// Formats the span and the reason of a condition's error as `targets` does, indented and after a line end.
+fn fault_lines(alloc: Global, key: &str, error: &ParseError) -> Result<String, AllocError> {
+    let whole = refused_key(alloc, key, error)?;
+    let mut lines = String::new(alloc);
+    if let Some((_, rest)) = whole.as_str().split_once('\n') {
+        push(&mut lines, "\n")?;
+        push(&mut lines, rest.strip_suffix('\n').unwrap_or(rest))?;
+    }
+    Ok(lines)
+}
+
+/// Formats why the ids or conditions of a document form no graph: one line, and for a refused condition the lines that
+/// show its error. Fails if memory is refused, and if that is what `refusal` reports.
+pub fn graph_reason(
+    alloc: Global,
+    metadata: &Metadata<'_>,
+    refusal: &Unlinked,
+) -> Result<String, AllocError>
+    ensures memory { OnOk result (is_memory_of_graph refusal.now ≡ false) }
+{
+    if refusal.is_memory() {
+        return Err(AllocError);
+    }
+    let reason = format!(in alloc; "{refusal}")?;
+    let mut reason = about(alloc, reason, id_of(metadata, refusal))?;
+    if let Unlinked::Dependency(i, j, InDependency::Condition(k, error)) = refusal {
+        if let Some(key) = condition_at(metadata, *i, *j, *k) {
+            let lines = fault_lines(alloc, key, error)?;
+            push(&mut reason, lines.as_str())?;
+        }
+    }
+    Ok(reason)
+}

@@ -1,0 +1,235 @@
+//! Feature resolution: the resolver, the features that are requested, and what they turn on.
+
+use crate::asked::{Asked, Show};
+use crate::incomplete::lacking_reason;
+use crate::origins::using_from;
+use crate::reading::{Input, Rejected};
+use crate::requested::{current_of, divided, names_of, reject_unknown};
+use cargo_features::{Build, Claim, Resolved, resolve};
+use declared_features::{
+    Asked as AskedFeatures, Declarations, Described, described_features, text_at,
+};
+use key_answers::answer::{Refusal, unusable_words};
+use key_answers::printing::shown_name;
+use known_targets::{KnownTarget, TargetSet};
+use package_graphs::{Kinds, Side};
+use serde_json::Value;
+use std::alloc::Global;
+
+/// The resolved features of a graph.
+#[derive(Drop)]
+pub struct Features<'a> {
+    pub declarations: Declarations<'a>,
+    pub resolution: Resolution,
+}
+
+/// What the feature resolver returns for a graph.
+#[derive(Drop)]
+pub struct Resolution {
+    /// For each package, and each of its dependencies in `resolved`, the index among the dependencies of the linked
+    /// package.
+    edges: Vec<Vec<usize>>,
+    pub resolved: Resolved,
+}
+
+impl Resolution {
+    /// Returns the targets on which a dependency is used, and leads to a package that is built for the side `to`.
+    /// `place` is its index among those of the linked package.
+    pub fn using_to(&self, index: usize, place: usize, to: Side) -> TargetSet {
+        let mut targets = TargetSet::none();
+        let Some(edges) = self.edges.get(index) else {
+            return targets;
+        };
+        for i in 0..edges.len() {
+            if edges[i] == place {
+                targets = targets.union(self.resolved.using_to(index, i, to));
+            }
+        }
+        targets
+    }
+
+    /// Returns the targets on which a package that is built for the side `from` uses a dependency. `place` is its index
+    /// among those of the linked package.
+    pub fn using_from(&self, index: usize, place: usize, from: Side) -> TargetSet {
+        let mut targets = TargetSet::none();
+        let Some(unit) = self.resolved.packages().get(index) else {
+            return targets;
+        };
+        let Some(edges) = self.edges.get(index) else {
+            return targets;
+        };
+        for i in 0..edges.len() {
+            if edges[i] != place {
+                continue;
+            }
+            if let Some(dependency) = unit.dependencies.get(i) {
+                targets = targets.union(using_from(&self.resolved, index, i, dependency, from));
+            }
+        }
+        targets
+    }
+
+    /// Returns the targets on which the build uses a package for a side, with a feature that is on.
+    pub fn with_feature(&self, index: usize, side: Side, feature: usize) -> TargetSet {
+        self.resolved.with_feature(index, side, feature)
+    }
+
+    /// Returns the targets on which the build uses a package for a side.
+    pub fn used_on(&self, index: usize, side: Side) -> TargetSet {
+        self.resolved.at(Claim::Used(index, side))
+    }
+}
+
+/// Returns whether features have to be resolved.
+fn is_asked(asked: &Asked<'_>) -> bool {
+    let requested = &asked.requested;
+    let is_shown = matches!(asked.show, Show::Features | Show::Unified | Show::All);
+    let is_told = requested.resolver.is_some() || !requested.features.is_empty();
+    is_shown || is_told || requested.no_default || requested.all_features
+}
+
+/// The feature resolver.
+#[derive(Clone, Copy, Debug, PartialEq, Eq, Drop)]
+enum Resolver {
+    One,
+    /// Resolver 2, or 3, which keeps features apart in the same way.
+    Two,
+}
+
+/// Returns whether a path is that of the manifest in a folder, with `/` or `\` between them.
+fn is_manifest_in(path: &str, folder: &str) -> bool {
+    match path.strip_prefix(folder) {
+        Some(rest) => rest == "/Cargo.toml" || rest == "\\Cargo.toml",
+        None => false,
+    }
+}
+
+/// Returns the root package: the one whose manifest is that of the workspace.
+fn root_package<'a>(document: &'a Value) -> Option<&'a Value> {
+    let root = text_at(document, "workspace_root")?;
+    for package in document.get("packages")?.as_array()? {
+        if let Some(path) = text_at(package, "manifest_path") {
+            if is_manifest_in(path, root) {
+                return Some(package);
+            }
+        }
+    }
+    None
+}
+
+/// Why the resolver is not known.
+const NO_ROOT: &str =
+    "the workspace has no root package, whose edition tells the resolver: say --resolver 1, 2 or 3";
+
+/// Returns the default resolver of the root package's edition, as in Cargo's [resolver
+/// versions](https://doc.rust-lang.org/cargo/reference/resolver.html#resolver-versions).
+fn resolver_by_edition(alloc: Global, root: Option<&Value>) -> Result<Resolver, Rejected> {
+    let edition = match root {
+        Some(package) => text_at(package, "edition"),
+        None => None,
+    };
+    match edition {
+        Some("2015" | "2018") => Ok(Resolver::One),
+        Some("2021" | "2024") => Ok(Resolver::Two),
+        Some(edition) => {
+            let edition = shown_name(alloc, edition)?;
+            Err(Rejected::Document(format!(in alloc;
+                "no resolver is known of edition {edition}: say --resolver 1, 2 or 3"
+            )?))
+        }
+        None => Err(Rejected::Document(String::from_str(alloc, NO_ROOT)?)),
+    }
+}
+
+/// Returns the resolver that `--resolver` selects.
+fn resolver_of(
+    alloc: Global,
+    word: Option<&str>,
+    root: Option<&Value>,
+) -> Result<Resolver, Rejected> {
+    match word {
+        Some("1") => Ok(Resolver::One),
+        Some("2" | "3") => Ok(Resolver::Two),
+        None | Some("edition") => resolver_by_edition(alloc, root),
+        Some(_) => {
+            let text = "--resolver names 1, 2, 3 or edition";
+            Err(Rejected::Refused(unusable_words(alloc, text)))
+        }
+    }
+}
+
+/// Returns the build of a resolver.
+fn build_of(resolver: Resolver, kinds: Kinds, host: KnownTarget) -> Build {
+    match resolver {
+        Resolver::One => Build::by_resolver_1(kinds, host),
+        Resolver::Two => Build::by_resolver_2(kinds, host),
+    }
+}
+
+/// Returns the host for which features are resolved. Refuses a query without a host, and `--show why`.
+fn host_of(alloc: Global, asked: &Asked<'_>) -> Result<KnownTarget, Refusal> {
+    let Some(host) = asked.host else {
+        let text = "features are resolved for a host: say --host NAME";
+        return Err(unusable_words(alloc, text));
+    };
+    if asked.show == Show::Why {
+        let text =
+            "`--show why` knows no features: leave out --resolver and what is asked of features";
+        return Err(unusable_words(alloc, text));
+    }
+    Ok(host)
+}
+
+/// Resolves the requested features of a graph.
+fn resolved_of<'a>(
+    alloc: Global,
+    input: &Input<'a>,
+    features: &AskedFeatures<'a>,
+    build: Build,
+) -> Result<Resolution, Rejected> {
+    let graph = input.declaring(alloc)?;
+    reject_unknown(alloc, &graph, features)?;
+    let Described { packages, edges } = described_features(alloc, &graph, features)?;
+    let resolved = resolve(alloc, packages, build)?;
+    match lacking_reason(alloc, &graph, &resolved, features)? {
+        Some(reason) => Err(Rejected::Document(reason)),
+        None => Ok(Resolution { edges, resolved }),
+    }
+}
+
+/// Resolves the features of a graph, if that is requested.
+///
+/// # Errors
+///
+/// Refuses a query without a host, one for dependency paths, an unknown resolver, a feature that no package has, and a
+/// document that does not say what its packages declare, or that was made with fewer features. Fails if memory is
+/// refused.
+pub fn resolution_of<'a>(
+    alloc: Global,
+    input: &Input<'a>,
+    asked: &Asked<'_>,
+) -> Result<Option<Resolution>, Rejected> {
+    if !is_asked(asked) {
+        return Ok(None);
+    }
+    let host = host_of(alloc, asked)?;
+    let graph = input.declaring(alloc)?;
+    let root = root_package(input.document);
+    let resolver = resolver_of(alloc, asked.requested.resolver, root)?;
+    let current = if resolver == Resolver::One && root.is_some() {
+        Some(current_of(alloc, &graph)?)
+    } else {
+        None
+    };
+    let names = names_of(alloc, asked.requested.features)?;
+    let (names, of_others) = divided(alloc, names, current, &graph)?;
+    let features = AskedFeatures {
+        names: &names,
+        default: !asked.requested.no_default,
+        all: asked.requested.all_features,
+        current,
+        of_others: &of_others,
+    };
+    let build = build_of(resolver, asked.kinds, host);
+    Ok(Some(resolved_of(alloc, &*input, &features, build)?))
+}
