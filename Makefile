@@ -1,34 +1,36 @@
-# make try    builds both programs without proof, in two minutes, and says where they are
-# make run    runs `platform_check` on its sample input; PROVED=yes proves and builds it first
-# make lint MANIFEST=path  reports what is wrong or odd about the target keys of a manifest
-# make test   runs every test over builds without proof, within minutes
-# make prove  proves every crate and its tests, and runs all tests and programs as they are proved
-# make mutants    judges all mutants, and writes the record of them; ONLY=".." judges those of some crates
-# make build  proves and builds both programs, and says where they are
-# make install PREFIX=..  proves and installs both programs, manifest_check as cargo-manifest-check too, with a man page
-#             and completions; where a C compiler is, it does what `make install-c` does too. UNPROVED=yes proves
-#             nothing, and installs the programs alone, marked as unproved builds
-# make c-library  proves and builds the library for C, and says where it is
+# make try         builds both programs without proof, within minutes, and prints where they are
+# make run         runs `platform_check` on its sample input; with PROVED=yes, proves and builds it first
+# make lint MANIFEST=PATH  reports what is wrong or odd about the target keys of a manifest
+# make test        runs every test over builds without proof, within minutes
+# make prove       proves every crate and its tests, and runs all tests over the proved builds
+# make mutants     judges all mutants, or with ONLY=".." those of some crates, and writes the record
+# make build       proves and builds both programs, and prints where they are
+# make install PREFIX=..  proves and installs both programs, manifest_check also as cargo-manifest-check, with a man
+#                  page and completions. If there is a C compiler, it does what `make install-c` does too. With
+#                  UNPROVED=yes, it proves nothing, and installs only the programs, which are marked as unproved builds
+# make c-library   proves and builds the library for C, and prints where it is
 # make install-c PREFIX=..  proves, builds and installs the library for C, shared and static, its header, a file for
-#             pkg-config, and the Python package where PYTHON looks for packages
-# make wheel  builds a wheel of the Python package, with the shared library in it, into out/wheel
-# make dist   one archive of the programs, the library for C and the wheel, of what it proves and builds, into out/dist
-# make take INTO=FOLDER CRATES=".."  copies crates into another repository, with those that they stand on
-# make measure    times the calls, and prints the tables that `measure/tables` takes
-# make targets    asks the rustc at hand for its targets, and writes the table of crates/known_targets anew
-# make fmt    lays out the files
-# Parts of `make test`, alone; with PROVED=yes those that run a program take the proved one:
-# make fits       whether each mutant can still be applied
-# make refusals   each allocation refused in turn, in each row and in both programs, and what is released counted
-# make second-reader  what a reader in Python says of the rows on texts, and of 1.3 million questions to the library
-# make manifests  the program manifest_check over questions whose answers are known, and hostile input
-# make workspaces  the same at the roots of workspaces, with no manifest named
-# make graphs     the same for its command graph
-# make relations  what `manifest_check compare` answers, beside all sets of facts, and of hard conditions
-# make cargo-select  what `manifest_check select` selects, beside what Cargo does; it needs cargo and rustc 1.95.0
-# make try-c      the library for C, Python and Rust, called from each; it needs a C compiler
-# make pages      what the pages say, beside what it is said of; `.ci/promises --write` makes their lists anew
-# make depths     the programs on the deepest conditions that their inputs hold
+#                  pkg-config, and the Python package where PYTHON looks for packages
+# make wheel       builds a wheel of the Python package, with the shared library in it, in out/wheel
+# make dist        proves and builds one archive in out/dist: the programs, the library for C and the wheel
+# make take INTO=FOLDER CRATES=".."  copies crates into another repository, with those on which they depend
+# make measure     measures how long calls take, and prints the tables that `measure/tables` reads
+# make targets     writes the table of crates/known_targets from what the rustc on the PATH prints
+# make fmt         formats all files
+#
+# These are parts of `make test`. With PROVED=yes, those that run a program take the proved one.
+# make fits        checks that each mutant can still be applied
+# make refusals    makes each allocation fail in turn, in each test case and in both programs, and counts what is
+#                  released
+# make second-reader  compares the library with a reader in Python, on test cases and on 1.3 million questions
+# make manifests   tests manifest_check with questions whose answers are known, and with hostile input
+# make workspaces  tests it at the roots of workspaces, without naming a manifest
+# make graphs      tests its command graph
+# make relations   compares the answers of `manifest_check compare` with all sets of facts, and tries hard conditions
+# make cargo-select  compares the answers of `manifest_check select` with Cargo; it needs cargo and rustc 1.95.0
+# make try-c       tests the library for C, Python and Rust from each language; it needs a C compiler
+# make pages       checks the pages; `.ci/promises --write` renews their lists
+# make depths      tests the programs with the deepest conditions that their inputs may have
 .PHONY: try lint run test prove mutants build install install-programs say-how-long c-library install-c \
 	install-library wheel dist take measure targets fmt fits refusals second-reader manifests workspaces graphs \
 	relations cargo-select try-c pages depths rt
@@ -48,11 +50,11 @@ try: rt
 	@.ci/unproved platform_check manifest_check
 	@echo "these are unproved builds: \`make build\` proves both programs"
 
-# The status is the program's own: 1 where there is an error or a warning.
+# The status is that of the program: 1 if there is an error or a warning.
 lint: rt
 	@.ci/start manifest_check lint $(MANIFEST)
 
-# The status is the program's own: 0 where the condition matches.
+# The status is that of the program: 0 if the condition matches.
 run: rt
 	@$(if $(PROVED),.ci/build &&) .ci/start platform_check < $(PROGRAM)/stdin
 
@@ -122,7 +124,7 @@ dist: build
 try-c: rt
 	.ci/c-library
 
-# With CACHE=yes the proofs' cache goes along: 1.2 GB for the library, once it was proved here.
+# With CACHE=yes, the cache of proofs is copied too: 1.2 GB for the library, once it has been proved here.
 take:
 	@.ci/take $(if $(CACHE),--cache) $(INTO) $(CRATES)
 
@@ -131,7 +133,7 @@ fits:
 
 measure: build
 	measure/calls
-	@if command -v cargo > /dev/null; then measure/graphs; else echo "measure/graphs: left out, for want of cargo"; fi
+	@if command -v cargo > /dev/null; then measure/graphs; else echo "measure/graphs is skipped: there is no cargo"; fi
 
 targets:
 	.ci/known-targets --renew

@@ -1,26 +1,27 @@
-/* Target conditions of Cargo manifests: read, printed, matched and compared by proved code.
+/* Reads, prints, matches and compares the target conditions of Cargo manifests, by proved code.
 
-   The declarations are made of crates/nevgrasi_c/src/lib.rt by .ci/c-library --header.
+   `.ci/c-library --header` makes the declarations from crates/nevgrasi_c/src/lib.rt.
 
-   What a caller owes, and nothing checks:
-   - A pointer with a length names so many bytes that may be read, or for `out` be written, through the call. Null is
-     fine with the length 0. `out`, `words` and `outcome` overlap nothing else of the call.
-   - `out` and `words` hold bytes that were written once, as zeros.
-   - malloc, realloc and free are of one allocator. No call is made from a signal handler.
-   - Some stack: the tests make calls at NEVGRASI_MOST_OPEN and NEVGRASI_MOST_FLAT_BYTES with 8 MiB of it.
-   Calls share nothing: they may be made from many threads at once.
+   A caller has these duties, which nothing checks:
+   - A pointer with a length points to that many bytes, which the call may read or, for `out`, write until it returns.
+     A null pointer is allowed with the length 0. `out`, `words` and `outcome` overlap nothing else that is passed.
+   - `out` and `words` have been initialized, for example with zeros.
+   - malloc, realloc and free belong to one allocator. No call is made from a signal handler.
+   - The stack is large enough. The tests make calls at NEVGRASI_MOST_OPEN and NEVGRASI_MOST_FLAT_BYTES on a stack of
+     8 MiB.
+   Calls share no state: many threads may make calls at the same time.
 
-   A call answers a code, which stands in `outcome` too. An answer in `out` has `needed` bytes: where `out` is as long,
-   it begins with them, and where it is shorter, none is written, and the call may be made again with more room.
+   A call returns a code, which is also in `outcome`. The answer in `out` has `needed` bytes. If `out` has room for
+   them, it begins with them. Otherwise nothing is written, and you can make the call again with more room.
 
-   With NEVGRASI_REFUSED, `out` has the message, and the bytes from `start` to `end` of the text are the fault. The text
-   is the one of the call's texts that `argument` counts from 0.
+   With NEVGRASI_REFUSED, `out` has the message, and the bytes from `start` to `end` of the rejected text are the error.
+   `argument` is the index, from 0 on, of that text among the texts of the call.
 
-   A field that has no meaning is zero: `holds` and `is_named` unless the code is NEVGRASI_DONE, and `start` and `end`
+   A field without a meaning is zero: `holds` and `is_named` unless the code is NEVGRASI_DONE, and `start` and `end`
    unless it is NEVGRASI_REFUSED.
 
-   An example is texts, one after the other, each behind its length: 8 bytes, the low one first. With `is_named` the
-   first is the name of the target, and each other one is a fact. */
+   An example consists of texts, one after the other, each with its length before it: 8 bytes, little-endian. With
+   `is_named`, the first text is the name of the target, and each other text is a fact. */
 #ifndef NEVGRASI_H
 #define NEVGRASI_H
 #include <stdbool.h>
@@ -38,7 +39,7 @@ extern "C" {
 #define NEVGRASI_NOT_UTF8 2
 /* The bytes are not a flat condition, or not flat facts. */
 #define NEVGRASI_NOT_FLAT 3
-/* Memory was refused. */
+/* An allocation failed. */
 #define NEVGRASI_NO_MEMORY 4
 /* The budget is used up. */
 #define NEVGRASI_UNDECIDED 5
@@ -56,7 +57,7 @@ extern "C" {
 #define NEVGRASI_ABI 2
 /* The number of targets. */
 #define NEVGRASI_TARGETS 320
-/* The words of a set of targets. */
+/* The number of words in a set of targets. */
 #define NEVGRASI_WORDS 5
 
 /* How a call ended. */
@@ -83,7 +84,7 @@ uint32_t nevgrasi_abi(void);
 /* Writes the version of the library: three numbers with dots between them. */
 uint32_t nevgrasi_version(uint8_t *out, size_t out_length, nevgrasi_outcome *outcome);
 
-/* Writes the canonical text of a key's condition, which spells the same condition. */
+/* Writes the canonical text of a key's condition, which is parsed as the same condition. */
 uint32_t nevgrasi_canonical(const uint8_t *key, size_t key_length, uint8_t *out, size_t out_length,
     nevgrasi_outcome *outcome);
 

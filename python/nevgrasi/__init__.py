@@ -1,4 +1,4 @@
-"""Target conditions of Cargo manifests: read, printed, matched and compared by proved code.
+"""Reads, prints, matches and compares the target conditions of Cargo manifests, by proved code.
 
 >>> Key('cfg( all(unix,not(target_os="macos"),) )').canonical
 'cfg(all(unix, not(target_os = "macos")))'
@@ -14,8 +14,8 @@ nevgrasi.Fault: failed to parse `all(unix windows)` as a cfg expression: expecte
 A `Key`, a `Condition`, `Facts` and a `Fault` are values: they can be compared, sorted, hashed, copied and pickled, and
 `repr` prints what creates them. An argument of another type raises `TypeError`.
 
-The shared library is `libnevgrasi.so` beside this file, or the one that the variable NEVGRASI_LIBRARY of the
-environment names. A call makes no other system call than for memory, and threads may call at once.
+The shared library is `libnevgrasi.so` beside this file, or the one that the environment variable NEVGRASI_LIBRARY
+names. Calls make no system calls except for memory, and threads may make them at the same time.
 """
 from __future__ import annotations
 
@@ -32,7 +32,7 @@ from ._library import Outcome, call, of_bytes, of_text, wrong_type
 __all__ = ["Answer", "Condition", "Example", "Facts", "Fault", "Key", "Package", "TooDeep", "Undecided",
            "UnknownTarget", "facts_of", "graph", "keys_at", "known_targets", "version"]  # fmt: skip
 
-# How many pairs a comparison may split on before it is undecided.
+# How many case splits a comparison may make before it is undecided.
 BUDGET = 10_000
 
 
@@ -65,7 +65,7 @@ class _Value:
 
 
 class Fault(_Value, ValueError):
-    """An error of a text, with the bytes at which it lies. Faults sort by these.
+    """An error of a text, with the bytes at which it is. Faults are sorted by these.
 
     >>> try:
     ...     Key("cfg(all(a b))")
@@ -83,7 +83,7 @@ class Fault(_Value, ValueError):
     start: int
     #: The byte after the error.
     end: int
-    #: Two lines that show the key, and carets below the error. A text that is no key has none.
+    #: Two lines that show the key, and carets below the error. None if the text is not a key.
     snippet: str | None
 
     def __init__(self, message: str, start: int, end: int, snippet: str | None = None) -> None:
@@ -102,7 +102,7 @@ class Fault(_Value, ValueError):
 
 
 class TooDeep(ValueError):
-    """A text has more parentheses open at once than the library takes stack for."""
+    """A text has more parentheses open at once than the library accepts."""
 
 
 class Undecided(Exception):

@@ -68,7 +68,7 @@ pub(crate) fn text_of(bytes: Vec<u8>) -> Result<String, Error> {
     String::from_utf8(bytes).map_err(|_| Error::unexpected("no UTF-8"))
 }
 
-/// Returns the texts of an example, each of which is behind its length in eight bytes.
+/// Returns the texts of an example, each of which has its length before it, in eight bytes.
 pub(crate) fn texts_of(mut bytes: &[u8]) -> Result<Vec<String>, Error> {
     let mut texts = Vec::new();
     while !bytes.is_empty() {
@@ -79,7 +79,7 @@ pub(crate) fn texts_of(mut bytes: &[u8]) -> Result<Vec<String>, Error> {
     Ok(texts)
 }
 
-/// Returns the first text, and the bytes behind it.
+/// Returns the first text, and the bytes after it.
 fn first_text(bytes: &[u8]) -> Option<(&[u8], &[u8])> {
     let length = u64::from_le_bytes(bytes.get(..8)?.try_into().ok()?);
     let end = usize::try_from(length).ok()?.checked_add(8)?;

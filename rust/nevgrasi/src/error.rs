@@ -1,4 +1,4 @@
-//! Why there is no answer.
+//! The errors of calls.
 
 use std::fmt;
 use std::ops::Range;
@@ -7,11 +7,11 @@ use std::ops::Range;
 #[derive(Clone, Copy, Debug, PartialEq, Eq, Hash)]
 #[non_exhaustive]
 pub enum ErrorKind {
-    /// The text is no key. The error has a span and a snippet.
+    /// The text is not a key. The error has a span and a snippet.
     InvalidKey,
     /// The document of a graph can't be used.
     InvalidDocument,
-    /// A text has more parentheses open at once than the library takes stack for.
+    /// A text has more parentheses open at once than the library accepts.
     TooDeep,
     /// A comparison took more case splits than its budget.
     Undecided,
@@ -21,11 +21,11 @@ pub enum ErrorKind {
     OutOfMemory,
     /// The shared library that is loaded has another interface than this crate.
     OtherInterface,
-    /// The library answered what its header rules out.
+    /// The library returned something that its header rules out.
     Unexpected,
 }
 
-/// An error: its kind, a message, and where it lies in a key.
+/// An error: its kind, a message, and its place in a key.
 ///
 /// ```
 /// use nevgrasi::{ErrorKind, Key};
@@ -47,7 +47,7 @@ pub struct Error {
 }
 
 impl Error {
-    /// Returns an error that lies in no text.
+    /// Returns an error that has no place in a text.
     pub(crate) fn new(kind: ErrorKind, message: impl Into<String>) -> Error {
         Error { kind, message: message.into(), span: None, snippet: None }
     }
@@ -67,7 +67,7 @@ impl Error {
         self.kind
     }
 
-    /// Returns the bytes of the key at which it is wrong. An empty span lies behind what is missing something.
+    /// Returns the bytes of the key at which the error is. If something is missing, the span is empty, at its place.
     pub fn span(&self) -> Option<Range<usize>> {
         self.span.clone()
     }

@@ -1,4 +1,4 @@
-//! On which targets the packages of a graph are in the build.
+//! The packages of a graph, with the targets on which they are in the build.
 
 use crate::call::{check_code, made_in, text_of};
 use crate::error::{Error, ErrorKind};

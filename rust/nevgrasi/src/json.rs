@@ -56,7 +56,7 @@ impl Value {
 /// How deep values may be nested. A line of a package has three levels.
 const DEPTH: usize = 16;
 
-/// Returns the value that the whole text is.
+/// Parses the whole text as a value.
 pub(crate) fn read(text: &str) -> Option<Value> {
     let mut reader = Reader { rest: text };
     let value = reader.value(DEPTH)?;
@@ -73,7 +73,7 @@ impl Reader<'_> {
         self.rest = self.rest.trim_start_matches([' ', '\t', '\n', '\r']);
     }
 
-    /// Takes this text, behind white space, or nothing.
+    /// Takes this text, after white space, or nothing.
     fn take(&mut self, text: &str) -> Option<()> {
         self.skip_space();
         self.rest = self.rest.strip_prefix(text)?;

@@ -1,4 +1,4 @@
-//! Keys, and what is said of them.
+//! Keys, and questions about them.
 
 use crate::call::{check_code, check_interface, made, text_of, texts_of};
 use crate::error::Error;
@@ -10,7 +10,7 @@ use std::hash::{Hash, Hasher};
 use std::ptr;
 use std::str::FromStr;
 
-/// How many pairs a comparison may split on before it is undecided.
+/// How many case splits a comparison may make before it is undecided.
 pub const BUDGET: u64 = 10_000;
 
 /// A possible target: its name, if the answer depends on it, and its facts.

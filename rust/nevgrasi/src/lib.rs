@@ -1,8 +1,9 @@
-//! What Rust's crates on target conditions lack: all known targets on which a key is true, what one key says of
-//! another, where a rejected key is wrong, and on which targets each package of a graph is in the build.
+//! Answers questions about the target conditions of Cargo manifests that other crates leave open: on which known
+//! targets a key is true, whether one key implies another, where a rejected key is wrong, and on which targets each
+//! package of a graph is in the build.
 //!
-//! The answers are those of the library `libnevgrasi`, whose calls are proved. This crate is not proved: it passes
-//! slices to the library, and reads the answers. The crate cargo-platform matches keys.
+//! The answers come from the library `libnevgrasi`, whose calls are proved. This crate is not proved: it passes slices
+//! to the library, and reads the answers. To match keys, use the crate cargo-platform.
 //!
 //! ```
 //! use nevgrasi::Key;

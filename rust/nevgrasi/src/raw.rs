@@ -29,7 +29,7 @@ pub const REFUSED: u32 = 1;
 pub const NOT_UTF8: u32 = 2;
 /// The bytes are not a flat condition, or not flat facts.
 pub const NOT_FLAT: u32 = 3;
-/// Memory was refused.
+/// An allocation failed.
 pub const NO_MEMORY: u32 = 4;
 /// The budget is used up.
 pub const UNDECIDED: u32 = 5;
@@ -46,7 +46,7 @@ pub const MOST_FLAT_BYTES: usize = 680000;
 pub const ABI: u32 = 2;
 /// The number of targets.
 pub const TARGETS: usize = 320;
-/// The words of a set of targets.
+/// The number of words in a set of targets.
 pub const WORDS: usize = 5;
 
 extern "C" {
@@ -58,7 +58,7 @@ extern "C" {
         out_length: usize,
         outcome: *mut Outcome,
     ) -> u32;
-    /// Writes the canonical text of a key's condition, which spells the same condition.
+    /// Writes the canonical text of a key's condition, which is parsed as the same condition.
     pub fn nevgrasi_canonical(
         key: *const u8,
         key_length: usize,
