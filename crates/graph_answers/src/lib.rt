@@ -20,4 +20,4 @@ pub use excluded::exclude;
 use graph_queries::{asked, graph, lines, packages};
 pub use licences::{Audit, reported_in, show_licences};
 pub use page::page_of;
-pub use policies::{AuditPolicy, GivenPolicy, GraphNames, policy_of};
+pub use policies::{AuditPolicy, GivenPolicy, GraphNames, policy_of, words_by_policy};

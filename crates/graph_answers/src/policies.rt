@@ -86,8 +86,8 @@ pub fn policy_of(alloc: Global, words: &Words<'_>) -> Result<Option<GivenPolicy>
 /// The names in the table `[graph]` of a policy.
 #[derive(Drop)]
 pub struct GraphNames<'p> {
-    targets: Vec<&'p str>,
-    features: Vec<&'p str>,
+    pub targets: Vec<&'p str>,
+    pub features: Vec<&'p str>,
 }
 
 impl<'p> GraphNames<'p> {
@@ -103,37 +103,43 @@ impl<'p> GraphNames<'p> {
         }
         Ok(GraphNames { targets, features })
     }
+}
 
-    /// Returns the arguments with those that the policy stands for. Targets, dependency kinds and features of the
-    /// command line replace those of the policy.
-    pub fn words(&'p self, words: &Words<'p>, graph: &GraphTable, includes_dev: bool) -> Words<'p> {
-        let targets = if words.targets.is_empty() {
-            self.targets.as_slice()
-        } else {
-            words.targets
-        };
-        let has_dev = includes_dev && !graph.excludes_dev;
-        let edges = words.edges.unwrap_or(if has_dev {
-            "normal,build,dev"
-        } else {
-            "normal,build"
-        });
-        let given = words.requested;
-        let requested = if given.features.is_empty() && !given.no_default && !given.all_features {
-            Requested {
-                resolver: given.resolver,
-                features: self.features.as_slice(),
-                no_default: graph.no_default_features,
-                all_features: graph.all_features,
-            }
-        } else {
-            given
-        };
-        Words {
-            targets,
-            edges: Some(edges),
-            requested,
-            ..*words
+/// Returns the arguments with those that a policy with these targets and features stands for. Targets, dependency kinds
+/// and features of the command line replace those of the policy.
+pub fn words_by_policy<'p>(
+    words: &Words<'p>,
+    targets: &'p [&'p str],
+    features: &'p [&'p str],
+    graph: &GraphTable,
+    includes_dev: bool,
+) -> Words<'p> {
+    let targets = if words.targets.is_empty() {
+        targets
+    } else {
+        words.targets
+    };
+    let has_dev = includes_dev && !graph.excludes_dev;
+    let edges = words.edges.unwrap_or(if has_dev {
+        "normal,build,dev"
+    } else {
+        "normal,build"
+    });
+    let given = words.requested;
+    let requested = if given.features.is_empty() && !given.no_default && !given.all_features {
+        Requested {
+            resolver: given.resolver,
+            features,
+            no_default: graph.no_default_features,
+            all_features: graph.all_features,
         }
+    } else {
+        given
+    };
+    Words {
+        targets,
+        edges: Some(edges),
+        requested,
+        ..*words
     }
 }

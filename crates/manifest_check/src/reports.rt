@@ -4,7 +4,7 @@ use cargo_platform::shown_text;
 use graph_answers::bill_of_materials::{Bill, misplaced_format, show_bill};
 use graph_answers::{
     Audit, AuditPolicy, GivenPolicy, GraphNames, exclude, kinds_of, page_of, policy_of,
-    reported_in, show_changes, show_licences,
+    reported_in, show_changes, show_licences, words_by_policy,
 };
 use graph_lines::show;
 use graph_queries::asked::{Asked, Words, unusable_words};
@@ -195,7 +195,10 @@ fn report_on_text(
     };
     let GivenPolicy { graph, audit } = policy;
     let names = GraphNames::of(alloc, &graph)?;
-    let words = names.words(&*words, &graph, audit.table.includes_dev);
+    let targets = names.targets.as_slice();
+    let features = names.features.as_slice();
+    let words = Words { ..*words };
+    let words = words_by_policy(&words, targets, features, &graph, audit.table.includes_dev);
     let query = query_of(alloc, &words, bill, Some(audit))?;
     report_by(alloc, file, text, &words, query)
 }
