@@ -54,15 +54,23 @@ def human_of(case):
 
 def short_of(case):
     place = [str(it) for it in (case["path"], *case.get("at", [])[2:4]) if it is not None]
-    return f"{':'.join(place)}: error: {case['message']}\n" if place else f"error: {case['message']}\n"
+    message = case["message"] + (f": help: {case['help']}" if "help" in case else "")
+    return f"{':'.join(place)}: error: {message}\n" if place else f"error: {message}\n"
+
+
+def texts_of(case, newline):
+    """Returns the subject, the message and the help, with `newline` between lines."""
+    help_text = f"{newline}help: {case['help']}" if "help" in case else ""
+    return case.get("subject", "") + case["message"] + help_text
 
 
 def line_of(case):
     """Returns the object of `--json`."""
     first, end, line, column = case.get("at", [None] * 6)[:4]
-    return {"byte_end": end, "byte_start": first, "code": None, "column": column, "key": case.get("key"),
-            "level": "error", "line": line, "manifest": case["path"], "message": case["message"],
-            "span": case.get("span"), "suggestion": case.get("suggestion")}
+    return {"byte_end": end, "byte_start": first, "code": None, "column": column,
+            "help": [case["help"]] if "help" in case else [], "key": case.get("key"), "level": "error", "line": line,
+            "manifest": case["path"], "message": case["message"], "notes": [], "span": case.get("span"),
+            "suggestion": case.get("suggestion")}
 
 
 def span_of(case, at, replacement=None):
@@ -100,7 +108,7 @@ def command_of(case):
     if "at" in case:
         _, _, line, column, end_line, end_column = case["at"]
         place = f",line={line},endLine={end_line},col={column},endColumn={end_column}"
-    return f"::error file={path}{place}::{case.get('subject', '')}{case['message']}\n"
+    return f"::error file={path}{place}::{texts_of(case, '%0A')}\n"
 
 
 def notification_of(case):
@@ -113,8 +121,7 @@ def notification_of(case):
             names = ("startLine", "startColumn", "endLine", "endColumn")
             place["region"] = dict(zip(names, case["at"][2:]))
         locations.append({"physicalLocation": place})
-    return {"level": "error", "locations": locations,
-            "message": {"text": case.get("subject", "") + case["message"]}}
+    return {"level": "error", "locations": locations, "message": {"text": texts_of(case, "\n")}}
 
 
 def summary_of(case):

@@ -40,7 +40,42 @@ SPACED, PLAIN = "[target.'cfg( unix )'.dependencies]\n", "[target.'cfg(unix)'.de
 MEMBER = '[package]\nname = "m"\n'
 ROOT = '[workspace]\nmembers = ["m"]\n[workspace.metadata.manifest-check]\nwarn = ["not-canonical"]\n'
 
+# A key that needs that `nowhere` is allowed, and a table of rules with this list.
+NOWHERE = "[target.'cfg(all(unix, windows))'.dependencies]\n"
+
+
+def allowing(entries, before=""):
+    """Returns a manifest that allows these lints, as they are written, and needs `nowhere` alone."""
+    return f"{before}[package.metadata.manifest-check]\nallow = {entries}\n{NOWHERE}"
+
+
+def removing(name, before, after, count=1):
+    """Returns the case of entries that are removed from the lists of a manifest."""
+    return one(name, allowing(before), allowing(after), count, [])
+
+
 CASES = [
+    removing("the first entry", '["custom", "nowhere"]', '["nowhere"]'),
+    removing("the last entry", '["nowhere", "custom"]', '["nowhere"]'),
+    removing("the last entry, with a comma", '[ "nowhere", "custom", ]', '[ "nowhere", ]'),
+    removing("an entry in the middle", "['same', 'nowhere' , 'custom' , 'nowhere']", "['nowhere' , 'nowhere']", 2),
+    removing("the last two entries", '["nowhere", "custom", "same"]', '["nowhere"]', 2),
+    removing("a line", '[\n    "custom",\n    "nowhere",\n]', '[\n    "nowhere",\n]'),
+    removing("the last line, without a comma", '[\n    "nowhere",\n    "custom"\n]', '[\n    "nowhere"\n]'),
+    removing("a line with a comment", '[\n    "custom", # a\n    "nowhere", # b\n]',
+             '[\n    # a\n    "nowhere", # b\n]'),
+    removing("CR LF in a list", '[\r\n\t"custom",\r\n\t"nowhere",\r\n]', '[\r\n\t"nowhere",\r\n]'),
+    # A rule for one key stays: it is no entry that is a text.
+    removing("a rule for one key", '["nowhere", { key = "cfg(a)", code = "same" }]',
+             '["nowhere", { key = "cfg(a)", code = "same" }]', 0),
+    one("a list of one entry", '[package.metadata]\nmanifest-check = { allow = ["custom"] } # a\n',
+        '[package.metadata]\nmanifest-check = { allow = [] } # a\n', 1, []),
+    one("entries and names", "\ufeff" + allowing('["custom", "nowhere"]', "[dev_dependencies]\n"),
+        "\ufeff" + allowing('["nowhere"]', "[dev-dependencies]\n"), 2, []),
+    Case("an entry of a workspace",
+         {"Cargo.toml": ROOT + 'allow = ["custom", "nowhere"]\n', "m/Cargo.toml": MEMBER + NOWHERE},
+         {"Cargo.toml": ROOT + 'allow = ["nowhere"]\n', "m/Cargo.toml": MEMBER + NOWHERE}, {"Cargo.toml": 1},
+         ["Cargo.toml"]),
     one("one fix", SPACED + 'a = "1"\n', PLAIN + 'a = "1"\n', 1, CANONICAL),
     one("no level", SPACED, SPACED, 0, []),
     one("a lint that is allowed", "[dev_dependencies]\n", "[dev_dependencies]\n", 0, ["--allow", "underscored"]),

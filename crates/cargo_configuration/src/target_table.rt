@@ -1,7 +1,7 @@
 //! The table `target` of a configuration, whose keys are those of a manifest, by Cargo's reference ("Configuration":
 //! `target`).
 
-use manifest_lints_findings::{Code, Finding};
+use manifest_lints_findings::{Children, Code, Finding};
 use std::alloc::{AllocError, Global};
 use toml::{Table, Value};
 use workspaces::put;
@@ -25,7 +25,7 @@ fn without_fields(alloc: Global, targets: &Table) -> Result<Table, AllocError> {
 
 /// Returns a manifest that has the keys of `target` of a configuration, without their fields, and these lints.
 ///
-/// Fails only where memory runs out.
+/// Fails only if an allocation fails.
 pub fn manifest_with_targets(
     alloc: Global,
     configuration: &Table,
@@ -46,13 +46,15 @@ pub fn manifest_with_targets(
     Ok(manifest)
 }
 
-/// Replaces the messages on unsupported facts, which speak of dependencies, by the one for a configuration.
+/// Replaces the messages and notes on unsupported facts, which speak of dependencies, by the message for a
+/// configuration.
 ///
-/// Fails only where memory runs out.
+/// Fails only if an allocation fails.
 pub fn explain_unsupported(alloc: Global, findings: &mut [Finding]) -> Result<(), AllocError> {
     for finding in findings {
         if finding.code == Code::Unsupported {
             finding.message = String::from_str(alloc, UNSUPPORTED)?;
+            finding.children = Children::none(alloc);
         }
     }
     Ok(())

@@ -7,7 +7,7 @@ use crate::rendering::push_rendered;
 use crate::replacements::{Replacement, replacement_of};
 use crate::source_lines::Window;
 use key_answers::json_lines;
-use manifest_lints_findings::Lint;
+use manifest_lints_findings::Children;
 use manifests::places::Location;
 use serde::Serialize;
 use std::alloc::{AllocError, Global};
@@ -67,7 +67,7 @@ struct RustcChild {
     message: String,
     /// Always null.
     code: Option<&'static str>,
-    /// Always `help`.
+    /// `help` or `note`.
     level: &'static str,
     /// The places of the key, or of a table's name, with what can replace it.
     spans: Vec<RustcSpan>,
@@ -174,41 +174,51 @@ fn replaced_span(
     Ok(span)
 }
 
-/// Returns the message of the text that says what to write in place of a key, or of a table's name.
-fn advice_of(alloc: Global, diagnostic: &Diagnostic) -> Result<String, AllocError> {
-    match (&diagnostic.advice, diagnostic.lint) {
-        (Some(advice), _) => advice.clone(),
-        (None, Some(Lint::Underscored)) => String::from_str(alloc, "write this name"),
-        (None, _) => String::from_str(alloc, "write this key"),
-    }
-}
-
-/// Returns the text that says what to write in place of a key, or of a table's name.
-fn child_of(
+/// Returns the places of what a replacement replaces, with the text to write there.
+fn replaced_spans(
     alloc: Global,
     reported: &Reported<'_>,
     replacement: &Replacement,
-) -> Result<RustcChild, AllocError> {
+) -> Result<Vec<RustcSpan>, AllocError> {
     let mut spans = Vec::new(alloc);
     spans.push(replaced_span(alloc, reported, replacement.at, replacement)?)?;
     for at in &replacement.also_at {
         spans.push(replaced_span(alloc, reported, *at, replacement)?)?;
     }
+    Ok(spans)
+}
+
+/// Returns a note or help without places.
+fn child_of(
+    alloc: Global,
+    level: &'static str,
+    message: &String,
+) -> Result<RustcChild, AllocError> {
     Ok(RustcChild {
-        message: advice_of(alloc, reported.diagnostic)?,
+        message: message.clone()?,
         code: None,
-        level: "help",
-        spans,
+        level,
+        spans: Vec::new(alloc),
         children: Vec::new(alloc),
         rendered: None,
     })
 }
 
-/// Returns the texts that belong to a diagnostic.
+/// Returns the helps and the notes of a diagnostic. The first help has the places of what the diagnostic suggests to
+/// replace, if it suggests that.
 fn children_of(alloc: Global, reported: &Reported<'_>) -> Result<Vec<RustcChild>, AllocError> {
-    let mut children = Vec::new(alloc);
-    if let Some(replacement) = replacement_of(alloc, reported.diagnostic)? {
-        children.push(child_of(alloc, reported, &replacement)?)?;
+    let texts: &Children = &reported.diagnostic.children;
+    let mut children: Vec<RustcChild> = Vec::new(alloc);
+    for help in &texts.helps {
+        children.push(child_of(alloc, "help", help)?)?;
+    }
+    if let Some(replacement) = replacement_of(alloc, reported.text, reported.diagnostic)? {
+        if let Some(first) = children.first_mut() {
+            first.spans = replaced_spans(alloc, reported, &replacement)?;
+        }
+    }
+    for note in &texts.notes {
+        children.push(child_of(alloc, "note", note)?)?;
     }
     Ok(children)
 }

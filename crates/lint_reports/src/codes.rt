@@ -244,25 +244,45 @@ fn words(alloc: Global) -> Result<Vec<&'static str>, AllocError> {
     Ok(words)
 }
 
-/// Returns the message for a subject of a rule that is neither the name of a lint, nor `warnings` or `notes`. If one of
-/// these is one edit away, the message suggests it. Fails if memory is refused.
-pub fn unknown_subject(alloc: Global, name: &str) -> Result<String, AllocError> {
+/// What is wrong with a name that is no lint's, and what to do.
+#[derive(Drop)]
+pub struct UnknownLint {
+    pub message: String,
+    pub help: String,
+}
+
+impl UnknownLint {
+    /// Returns that no lint has a name. `meant` is the name that may be meant, if there is one.
+    fn of(alloc: Global, name: &str, meant: Option<&str>) -> Result<UnknownLint, AllocError> {
+        let shown = shown_start(alloc, name)?;
+        Ok(UnknownLint {
+            message: format!(in alloc; "unknown lint: `{shown}`")?,
+            help: match meant {
+                Some(meant) => format!(in alloc; "did you mean `{meant}`?")?,
+                None => String::from_str(alloc, "`lint --list-codes` lists all lints")?,
+            },
+        })
+    }
+
+    /// Returns the message and the help as one line. Fails if memory is refused.
+    pub fn line(&self, alloc: Global) -> Result<String, AllocError> {
+        let message = self.message.as_str();
+        let help = self.help.as_str();
+        format!(in alloc; "{message}; {help}")
+    }
+}
+
+/// Returns what is wrong with a subject of a rule that is neither the name of a lint, nor `warnings` or `notes`, and
+/// which of these is one edit away. Fails if memory is refused.
+pub fn unknown_subject(alloc: Global, name: &str) -> Result<UnknownLint, AllocError> {
     match near(name, &["warnings", "notes"]) {
-        Some(subject) => {
-            let shown = shown_start(alloc, name)?;
-            format!(in alloc; "unknown lint: `{shown}`; did you mean `{subject}`?")
-        }
+        Some(subject) => UnknownLint::of(alloc, name, Some(subject)),
         None => unknown_lint(alloc, name),
     }
 }
 
-/// Returns the message for a name that no lint has. If the name of a lint is one edit away, the message suggests it.
-pub fn unknown_lint(alloc: Global, name: &str) -> Result<String, AllocError> {
-    let shown = shown_start(alloc, name)?;
-    match near(name, &words(alloc)?) {
-        Some(lint) => format!(in alloc; "unknown lint: `{shown}`; did you mean `{lint}`?"),
-        None => {
-            format!(in alloc; "unknown lint: `{shown}`; `lint --list-codes` lists all lints")
-        }
-    }
+/// Returns what is wrong with a name that no lint has, and which lint's name is one edit away. Fails if memory is
+/// refused.
+pub fn unknown_lint(alloc: Global, name: &str) -> Result<UnknownLint, AllocError> {
+    UnknownLint::of(alloc, name, near(name, &words(alloc)?))
 }

@@ -7,10 +7,10 @@ ghost use Rattle.lint_reports.specs.Weights.{Fails};
 use crate::weight_rules::{Weighed, Weight};
 use cargo_platform::shown_start;
 use key_answers::answer::Status;
-use manifest_lints_findings::{Code, Level, Lint};
+use manifest_lints_findings::{Children, Code, Level, Lint};
 use manifests::places::Location;
 use std::alloc::{AllocError, Global};
-use toml_spans::Position;
+use toml_spans::{Position, Span};
 
 /// A place that a diagnostic points to besides its own, with a text for it.
 #[derive(Drop)]
@@ -31,8 +31,10 @@ pub struct Diagnostic {
     pub subject: String,
     /// The key of `target` that it is about, if there is one.
     pub key: Option<String>,
-    /// The message. It has one line, and no hidden characters.
+    /// What is wrong, in a phrase. It has one line, and no hidden characters.
     pub message: String,
+    /// The notes and helps. If there is a suggestion, the first help is to use it.
+    pub children: Children,
     /// The places at fault, in the order of the text.
     pub primary: Vec<Location>,
     /// The place of an earlier key.
@@ -42,10 +44,9 @@ pub struct Diagnostic {
     pub key_at: Option<Location>,
     /// The later places at which the text spells the same name, as headers of other tables do.
     pub also_at: Vec<Location>,
-    /// A text that can replace the whole key, or the name at fault if there is no key.
+    /// A text that can replace the whole key, or the name at fault if there is no key. It is empty if the entry of a
+    /// list at fault can be removed.
     pub suggestion: Option<String>,
-    /// What to do, if that is not to write the suggestion.
-    pub advice: Option<String>,
     /// The span of an error in the key, in bytes.
     pub span: Option<(usize, usize)>,
 }
@@ -106,21 +107,38 @@ impl Diagnostic {
         format!(in alloc; "{subject}: {message}")
     }
 
-    /// Returns the advice, or else the suggestion as it is displayed, unless the message contains it. Fails if memory
-    /// is refused.
-    pub fn help(&self, alloc: Global) -> Result<Option<String>, AllocError> {
-        if let Some(advice) = &self.advice {
-            return Ok(Some(advice.clone()?));
+    /// Returns the span of the entry of a list that it suggests to remove, if it suggests that.
+    pub fn removed_entry(&self) -> Option<Span> {
+        match (self.lint, &self.suggestion) {
+            (Some(Lint::UnneededAllow), Some(_)) => Some(self.location()?.span),
+            _ => None,
         }
-        let Some(suggestion) = &self.suggestion else {
-            return Ok(None);
-        };
-        let shown = shown_start(alloc, suggestion.as_str())?;
-        if self.message.as_str().contains(shown.as_str()) {
-            return Ok(None);
+    }
+
+    /// Returns the first help, which is to use the suggestion, if there is a suggestion.
+    pub fn help_of_suggestion(&self) -> Option<&str> {
+        if self.suggestion.is_none() {
+            return None;
         }
-        let help = format!(in alloc; "write `{shown}`")?;
-        Ok(Some(help))
+        match self.children.helps.first() {
+            Some(help) => Some(help.as_str()),
+            None => None,
+        }
+    }
+
+    /// Returns the subject, the message, the helps and the notes as a text of several lines. Fails if memory is
+    /// refused.
+    pub fn paragraph(&self, alloc: Global) -> Result<String, AllocError> {
+        let mut text = self.sentence(alloc)?;
+        for help in &self.children.helps {
+            text.push_str("\nhelp: ")?;
+            text.push_str(help.as_str())?;
+        }
+        for note in &self.children.notes {
+            text.push_str("\nnote: ")?;
+            text.push_str(note.as_str())?;
+        }
+        Ok(text)
     }
 }
 

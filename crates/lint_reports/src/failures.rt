@@ -3,6 +3,7 @@
 use crate::diagnostics::Diagnostic;
 use crate::unquoted::Unquoted;
 use crate::weight_rules::Weight;
+use manifest_lints_findings::Children;
 use manifests::places::{Location, Places};
 use manifests::reading::SyntaxError;
 use std::alloc::{AllocError, Global};
@@ -25,12 +26,12 @@ pub fn diagnostic_of_failure(
         subject: String::new(alloc),
         key: None,
         message,
+        children: Children::none(alloc),
         primary,
         label: None,
         key_at: None,
         also_at: Vec::new(alloc),
         suggestion: None,
-        advice: None,
         span: None,
     })
 }
@@ -44,7 +45,7 @@ pub fn diagnostic_of_syntax(alloc: Global, error: &SyntaxError) -> Result<Diagno
     if let Some(unquoted) = Unquoted::at(text, error.at) {
         diagnostic.key_at = Some(unquoted.at);
         diagnostic.suggestion = Some(unquoted.condition(alloc, text)?);
-        diagnostic.advice = Some(unquoted.advice(alloc, text)?);
+        diagnostic.children = Children::of_help(alloc, unquoted.advice(alloc, text)?)?;
     }
     Ok(diagnostic)
 }

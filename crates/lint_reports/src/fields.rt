@@ -1,7 +1,7 @@
 //! Fields under the keys of `target` that Cargo does not read in its own configuration.
 
 use cargo_platform::shown_start;
-use manifest_lints_findings::{Level, Lint, Site, WrongPlace, add_at_top, near};
+use manifest_lints_findings::{Children, Level, Lint, Site, WrongPlace, add_at_top, near};
 use std::alloc::{AllocError, Global};
 use toml::{Table, Value};
 
@@ -17,16 +17,30 @@ const FIELDS: [&str; 4] = ["linker", "runner", "rustflags", OF_NAMES];
 /// The tables that Cargo reads in manifests.
 const DEPENDENCIES: [&str; 3] = ["dependencies", "dev-dependencies", "build-dependencies"];
 
-/// Returns the level and the message for a field that Cargo reads under some keys, or `None` if Cargo reads it under
-/// this one.
-fn misplaced(
-    alloc: Global,
-    name: &str,
-    is_condition: bool,
-) -> Result<Option<(Level, String)>, AllocError> {
+/// What is wrong with a field, and what to do.
+#[derive(Drop)]
+struct Unread {
+    level: Level,
+    message: String,
+    children: Children,
+}
+
+impl Unread {
+    /// Returns a warning without help.
+    fn warning(alloc: Global, message: String) -> Unread {
+        Unread {
+            level: Level::Warning,
+            message,
+            children: Children::none(alloc),
+        }
+    }
+}
+
+/// Returns what is wrong with a field that Cargo reads under some keys, or `None` if Cargo reads it under this one.
+fn misplaced(alloc: Global, name: &str, is_condition: bool) -> Result<Option<Unread>, AllocError> {
     if name == OF_NAMES && is_condition {
         let message = format!(in alloc; "Cargo reads `{name}` at the name of a target alone")?;
-        return Ok(Some((Level::Warning, message)));
+        return Ok(Some(Unread::warning(alloc, message)));
     }
     Ok(None)
 }
@@ -43,22 +57,22 @@ fn reason_of(
     } else if is_table {
         format!(in alloc; "Cargo takes `{name}` for a library of `links`")
     } else {
-        format!(in alloc; "Cargo refuses `{name}` where it builds for the target")
+        format!(in alloc; "Cargo rejects `{name}` where it builds for the target")
     }
 }
 
-/// Returns the level and the message for a field. Returns `None` if Cargo reads the field, or if no field that Cargo
-/// reads has a similar name.
-fn unread(
+/// Returns what is wrong with a field. Returns `None` if Cargo reads the field, or if no field that Cargo reads has a
+/// similar name.
+fn unread_at(
     alloc: Global,
     key: &str,
     name: &str,
     value: &Value,
-) -> Result<Option<(Level, String)>, AllocError> {
+) -> Result<Option<Unread>, AllocError> {
     let is_condition = key.starts_with("cfg(");
     if DEPENDENCIES.contains(&name) {
         let message = format!(in alloc; "Cargo reads `{name}` in Cargo.toml alone")?;
-        return Ok(Some((Level::Warning, message)));
+        return Ok(Some(Unread::warning(alloc, message)));
     }
     if FIELDS.iter().any(|field| *field == name) {
         return misplaced(alloc, name, is_condition);
@@ -74,8 +88,12 @@ fn unread(
     };
     let name = shown_start(alloc, name)?;
     let reason = reason_of(alloc, name.as_str(), is_condition, is_table)?;
-    let message = format!(in alloc; "{reason}; did you mean `{meant}`?")?;
-    Ok(Some((level, message)))
+    let help = format!(in alloc; "did you mean `{meant}`?")?;
+    Ok(Some(Unread {
+        level,
+        message: reason,
+        children: Children::of_help(alloc, help)?,
+    }))
 }
 
 /// Returns the diagnostic on a field of a key that is not read.
@@ -83,9 +101,13 @@ fn field_of(
     alloc: Global,
     key: &str,
     name: &str,
-    level: Level,
-    message: String,
+    unread: Unread,
 ) -> Result<WrongPlace, AllocError> {
+    let Unread {
+        level,
+        message,
+        children,
+    } = unread;
     Ok(WrongPlace {
         lint: Lint::UnreadField,
         level,
@@ -96,6 +118,7 @@ fn field_of(
             String::from_str(alloc, name)?,
         ),
         message,
+        children,
         suggestion: None,
     })
 }
@@ -108,8 +131,8 @@ fn add_of_key(
     found: &mut Vec<WrongPlace>,
 ) -> Result<(), AllocError> {
     for (name, value) in fields.iter() {
-        if let Some((level, message)) = unread(alloc, key, name.as_str(), value)? {
-            found.push(field_of(alloc, key, name.as_str(), level, message)?)?;
+        if let Some(unread) = unread_at(alloc, key, name.as_str(), value)? {
+            found.push(field_of(alloc, key, name.as_str(), unread)?)?;
         }
     }
     Ok(())

@@ -77,6 +77,15 @@ fn short_place(alloc: Global, reported: &Reported<'_>) -> Result<String, AllocEr
     }
 }
 
+/// Returns the message of a diagnostic, and behind it the help to use its suggestion, if it has one.
+fn short_message(alloc: Global, diagnostic: &Diagnostic) -> Result<String, AllocError> {
+    let message = diagnostic.message.as_str();
+    match diagnostic.help_of_suggestion() {
+        Some(help) => format!(in alloc; "{message}: help: {help}"),
+        None => String::from_str(alloc, message),
+    }
+}
+
 /// Appends the line of a diagnostic: its place, level and message, and its lint if it has one.
 fn push_short(
     text: &mut String,
@@ -86,7 +95,7 @@ fn push_short(
 ) -> Result<(), AllocError> {
     let place = short_place(alloc, reported)?;
     let level = coloured(alloc, reported.weight, colours)?;
-    let message = reported.diagnostic.message.as_str();
+    let message = short_message(alloc, reported.diagnostic)?;
     let line = match reported.diagnostic.code() {
         Some(lint) => format!(in alloc; "{place}{level}: {message} [{lint}]\n")?,
         None => format!(in alloc; "{place}{level}: {message}\n")?,
@@ -105,6 +114,8 @@ struct DiagnosticLine<'a> {
     code: Option<&'a str>,
     /// The column of that place, in characters from 1.
     column: Option<usize>,
+    /// What to do. If there is a suggestion, the first text says to use it.
+    help: Vec<&'a str>,
     /// The key of `target` that the diagnostic is about.
     key: Option<&'a str>,
     /// One of `error`, `warning`, `note` and `allowed`.
@@ -113,7 +124,10 @@ struct DiagnosticLine<'a> {
     line: Option<usize>,
     /// The path of the manifest. Null if the diagnostic is about no file.
     manifest: Option<&'a str>,
+    /// What is wrong, in a phrase.
     message: &'a str,
+    /// Background.
+    notes: Vec<&'a str>,
     /// The span of an error in the key: its first byte, and the byte after its last one.
     span: Option<(usize, usize)>,
     /// A key that can replace it, or a name for the table at this place.
@@ -128,6 +142,15 @@ fn borrowed(text: &Option<String>) -> Option<&str> {
     }
 }
 
+/// Returns owned texts as borrowed ones.
+fn all_borrowed(alloc: Global, texts: &[String]) -> Result<Vec<&str>, AllocError> {
+    let mut borrowed = Vec::new(alloc);
+    for text in texts {
+        borrowed.push(text.as_str())?;
+    }
+    Ok(borrowed)
+}
+
 /// Appends a diagnostic as a line of JSON.
 fn push_json(text: &mut String, alloc: Global, reported: &Reported<'_>) -> Result<(), AllocError> {
     let diagnostic = reported.diagnostic;
@@ -137,13 +160,18 @@ fn push_json(text: &mut String, alloc: Global, reported: &Reported<'_>) -> Resul
         byte_start: at.map(|at| at.span.start),
         code: diagnostic.code(),
         column: at.map(|at| at.column),
+        help: all_borrowed(alloc, &diagnostic.children.helps)?,
         key: diagnostic.key(),
         level: weight_word(reported.weight),
         line: at.map(|at| at.line),
         manifest: reported.file(),
         message: diagnostic.message.as_str(),
+        notes: all_borrowed(alloc, &diagnostic.children.notes)?,
         span: diagnostic.span,
-        suggestion: borrowed(&diagnostic.suggestion),
+        suggestion: match diagnostic.removed_entry() {
+            Some(_) => None,
+            None => borrowed(&diagnostic.suggestion),
+        },
     };
     json_lines::push_line(text, alloc, &line)
 }
@@ -159,8 +187,8 @@ fn command_word(weight: Weight) -> &'static str {
 
 /// Returns the text of the workflow command for a diagnostic.
 fn command_body(alloc: Global, diagnostic: &Diagnostic) -> Result<String, AllocError> {
-    let sentence = diagnostic.sentence(alloc)?;
-    escaped(alloc, sentence.as_str(), false)
+    let paragraph = diagnostic.paragraph(alloc)?;
+    escaped(alloc, paragraph.as_str(), false)
 }
 
 /// Returns the properties of a workflow command that say where the diagnostic points to: ` file=..`, and the lines and

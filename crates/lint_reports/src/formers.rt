@@ -5,7 +5,7 @@ use cargo_platform::{Cfg, Platform, ReadError, values_of};
 use former_names::{
     Bounds, Release, Verdict, former_fact, former_target, has_former_value, name_now,
 };
-use manifest_lints_findings::{Level, Lint, Site, WrongPlace};
+use manifest_lints_findings::{Children, Level, Lint, Site, WrongPlace};
 use manifest_lints_standings::key_spans::spans_of;
 use manifests::{Declared, Targets, target_keys};
 use std::alloc::{AllocError, Global};
@@ -50,20 +50,20 @@ impl<'a> Project<'a> {
             || has(self.targets, name)
     }
 
-    /// Formats why no rustc that builds the project knows a name, as the end of a message.
-    fn reason(&self, alloc: Global, bounds: Bounds) -> Result<String, AllocError> {
+    /// Returns the notes that say why no rustc that builds the project knows a name.
+    fn reasons(&self, alloc: Global, bounds: Bounds) -> Result<Children, AllocError> {
         if bounds.is_lacking(self.rustc()) {
-            return reason(alloc, "the rustc of this project", self.rustc());
+            return reasons(alloc, "the rustc of this project", self.rustc());
         }
-        reason(alloc, "rust-version", self.rust_version)
+        reasons(alloc, "rust-version", self.rust_version)
     }
 }
 
-/// Formats a reason that names a release.
-fn reason(alloc: Global, subject: &str, release: Option<Release>) -> Result<String, AllocError> {
+/// Returns the note that something is this release, if there is one.
+fn reasons(alloc: Global, subject: &str, release: Option<Release>) -> Result<Children, AllocError> {
     match release {
-        Some(release) => format!(in alloc; ", and {subject} is {release}"),
-        None => Ok(String::new(alloc)),
+        Some(release) => Children::of_note(alloc, format!(in alloc; "{subject} is {release}")?),
+        None => Ok(Children::none(alloc)),
     }
 }
 
@@ -90,19 +90,20 @@ fn former(
     if verdict == Verdict::Known {
         return Ok(None);
     }
-    let mut message = until(alloc, name, bounds)?;
-    let mut level = Level::Note;
-    if verdict == Verdict::GoneForAll {
-        level = Level::Warning;
-        message.push_str(project.reason(alloc, bounds)?.as_str())?;
-    }
+    let is_gone = verdict == Verdict::GoneForAll;
+    let children = if is_gone {
+        project.reasons(alloc, bounds)?
+    } else {
+        Children::none(alloc)
+    };
     Ok(Some(WrongPlace {
         lint: Lint::Former,
-        level,
+        level: if is_gone { Level::Warning } else { Level::Note },
         subject: String::from_str(alloc, "target")?,
         key: Some(String::from_str(alloc, key)?),
         site: Site::InKey(None),
-        message,
+        message: until(alloc, name, bounds)?,
+        children,
         suggestion: None,
     }))
 }
@@ -118,8 +119,8 @@ fn former_of_target(
         return Ok(None);
     };
     if let Some(now) = name_now(name) {
-        let text = format!(in alloc; "; it is `{now}` now")?;
-        told.message.push_str(text.as_str())?;
+        let help = format!(in alloc; "write `{now}`, the name of the target now")?;
+        told.children.helps.push(help)?;
         told.suggestion = Some(now);
     }
     Ok(Some(told))

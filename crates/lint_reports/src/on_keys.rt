@@ -1,7 +1,7 @@
 //! The diagnostics for findings on keys, and for what is in a wrong place.
 
 use crate::diagnostics::{Diagnostic, Label, own_weight};
-use manifest_lints_findings::{Finding, Lint, Report, Site, WrongPlace};
+use manifest_lints_findings::{Children, Finding, Lint, Report, Site, WrongPlace};
 use manifests::places::{Location, Places};
 use std::alloc::{AllocError, Global};
 use toml_spans::Span;
@@ -185,6 +185,14 @@ fn copied(text: &Option<String>) -> Result<Option<String>, AllocError> {
     }
 }
 
+/// Returns a copy of notes and helps.
+fn copied_children(children: &Children) -> Result<Children, AllocError> {
+    Ok(Children {
+        notes: children.notes.clone()?,
+        helps: children.helps.clone()?,
+    })
+}
+
 /// Returns the diagnostic for a finding of a report on a manifest. Fails if memory is refused.
 pub fn diagnostic_of(
     alloc: Global,
@@ -204,12 +212,12 @@ pub fn diagnostic_of(
         subject: String::from_str(alloc, "target")?,
         key,
         message: finding.message.clone()?,
+        children: copied_children(&finding.children)?,
         primary,
         label,
         key_at,
         also_at,
         suggestion: copied(&finding.suggestion)?,
-        advice: None,
         span: finding.span.as_ref().map(|span| (span.start, span.end)),
     })
 }
@@ -297,12 +305,12 @@ pub fn diagnostic_of_wrong(
         subject: wrong.subject.clone()?,
         key: copied(&wrong.key)?,
         message: wrong.message.clone()?,
+        children: copied_children(&wrong.children)?,
         primary: places_of_wrong(alloc, places, wrong)?,
         label: None,
         key_at,
         also_at,
         suggestion: owned(alloc, wrong.suggestion)?,
-        advice: None,
         span: None,
     })
 }

@@ -1,60 +1,120 @@
 //! Diagnostics on the rules in a manifest that are invalid, or that nothing needs.
 
-use crate::codes::unknown_subject;
+use crate::codes::{UnknownLint, unknown_subject};
 use crate::diagnostics::{Diagnostic, own_weight};
 use crate::settings::{Fault, FaultAt, TOOL, UNDERSCORED_TOOL, WORDS};
 use crate::weight_rules::Rule;
 use cargo_platform::{inside_cfg, shown_start};
-use manifest_lints_findings::{Lint, near};
+use manifest_lints_findings::{Children, Lint, near};
 use manifests::places::{Location, Places, path_of};
 use std::alloc::{AllocError, Global};
 
 /// The table that contains the table of rules.
 const METADATA: &str = "metadata";
 
-/// Returns the message for an entry of `known-facts` that is no fact.
-fn no_fact_message(alloc: Global, text: &str) -> Result<String, AllocError> {
-    let shown = shown_start(alloc, text)?;
-    match inside_cfg(text) {
-        Some(inside) => {
-            let inside = shown_start(alloc, inside)?;
-            format!(in alloc; "`{shown}` is no fact; did you mean `{inside}`?")
+/// What is wrong, and what belongs to that.
+#[derive(Drop)]
+struct Wrong {
+    message: String,
+    children: Children,
+}
+
+impl Wrong {
+    /// Returns what is wrong, without notes and helps.
+    fn alone(alloc: Global, message: String) -> Wrong {
+        Wrong {
+            message,
+            children: Children::none(alloc),
         }
-        None => format!(in alloc; "`{shown}` is no fact, as `loom` and `backend=\"a\"` are"),
+    }
+
+    /// Returns what is wrong, and that another text may be meant.
+    fn or_meant(alloc: Global, message: String, meant: &str) -> Result<Wrong, AllocError> {
+        let help = format!(in alloc; "did you mean `{meant}`?")?;
+        Ok(Wrong {
+            message,
+            children: Children::of_help(alloc, help)?,
+        })
+    }
+
+    /// Returns what is wrong, with a note.
+    fn noted(alloc: Global, message: String, note: &str) -> Result<Wrong, AllocError> {
+        let note = String::from_str(alloc, note)?;
+        Ok(Wrong {
+            message,
+            children: Children::of_note(alloc, note)?,
+        })
     }
 }
 
-/// Returns the message for an error in a table of rules. Fails if memory is refused.
-fn fault_message(alloc: Global, fault: &Fault) -> Result<String, AllocError> {
-    match fault {
-        Fault::NoTable => format!(in alloc; "`{TOOL}` is no table"),
-        Fault::NoList(word) => format!(in alloc; "`{word}` is no list"),
-        Fault::NoEntry(word) => format!(in alloc;
-            "an entry of `{word}` is neither a code nor a table with the texts `key` and `code`"
-        ),
-        Fault::NoText(word) => format!(in alloc; "an entry of `{word}` is no text"),
-        Fault::NoRelease(word) => {
-            format!(in alloc; "`{word}` is no release, as `1.84` and `1.84.1` are")
+/// Returns what is wrong with an entry of `known-facts` that is no fact.
+fn no_fact(alloc: Global, text: &str) -> Result<Wrong, AllocError> {
+    let shown = shown_start(alloc, text)?;
+    let message = format!(in alloc; "`{shown}` is no fact")?;
+    match inside_cfg(text) {
+        Some(inside) => {
+            let inside = shown_start(alloc, inside)?;
+            Wrong::or_meant(alloc, message, inside.as_str())
         }
-        Fault::UnknownCode(word) => unknown_subject(alloc, word.as_str()),
-        Fault::UnknownWord(word) => {
-            let shown = shown_start(alloc, word.as_str())?;
-            match near(word.as_str(), &WORDS) {
-                Some(meant) => format!(in alloc;
-                    "nothing is set by `{shown}`; did you mean `{meant}`?"
-                ),
-                None => format!(in alloc; "nothing is set by `{shown}`"),
-            }
-        }
-        Fault::NoFact(text) => no_fact_message(alloc, text.as_str()),
-        Fault::NoTarget(text) => {
-            let text = shown_start(alloc, text.as_str())?;
-            format!(in alloc; "`{text}` is no name of a target")
-        }
-        Fault::Underscored => format!(in alloc;
-            "nothing is set by the table `{UNDERSCORED_TOOL}`; did you mean `{TOOL}`?"
+        None => Wrong::noted(
+            alloc,
+            message,
+            "facts are written as `loom` and `backend=\"a\"`",
         ),
     }
+}
+
+/// Returns what is wrong with a word that sets nothing.
+fn unknown_word(alloc: Global, word: &str) -> Result<Wrong, AllocError> {
+    let shown = shown_start(alloc, word)?;
+    let message = format!(in alloc; "nothing is set by `{shown}`")?;
+    match near(word, &WORDS) {
+        Some(meant) => Wrong::or_meant(alloc, message, meant),
+        None => Ok(Wrong::alone(alloc, message)),
+    }
+}
+
+/// Returns what is wrong with the name of a lint in a rule.
+fn unknown_code(alloc: Global, word: &str) -> Result<Wrong, AllocError> {
+    let UnknownLint { message, help } = unknown_subject(alloc, word)?;
+    Ok(Wrong {
+        message,
+        children: Children::of_help(alloc, help)?,
+    })
+}
+
+/// Returns the message for an entry of a list that is neither a lint nor a rule for a key.
+fn no_entry_message(alloc: Global, word: &str) -> Result<String, AllocError> {
+    format!(in alloc;
+        "an entry of `{word}` is neither a code nor a table with the texts `key` and `code`"
+    )
+}
+
+/// Returns what is wrong in a table of rules.
+fn wrong_of(alloc: Global, fault: &Fault) -> Result<Wrong, AllocError> {
+    let message = match fault {
+        Fault::NoTable => format!(in alloc; "`{TOOL}` is no table")?,
+        Fault::NoList(word) => format!(in alloc; "`{word}` is no list")?,
+        Fault::NoEntry(word) => no_entry_message(alloc, word)?,
+        Fault::NoText(word) => format!(in alloc; "an entry of `{word}` is no text")?,
+        Fault::NoRelease(word) => {
+            let message = format!(in alloc; "`{word}` is no release")?;
+            let note = "releases are written as `1.84` and `1.84.1`";
+            return Wrong::noted(alloc, message, note);
+        }
+        Fault::UnknownCode(word) => return unknown_code(alloc, word.as_str()),
+        Fault::UnknownWord(word) => return unknown_word(alloc, word.as_str()),
+        Fault::NoFact(text) => return no_fact(alloc, text.as_str()),
+        Fault::NoTarget(text) => {
+            let text = shown_start(alloc, text.as_str())?;
+            format!(in alloc; "`{text}` is no name of a target")?
+        }
+        Fault::Underscored => {
+            let message = format!(in alloc; "nothing is set by the table `{UNDERSCORED_TOOL}`")?;
+            return Wrong::or_meant(alloc, message, TOOL);
+        }
+    };
+    Ok(Wrong::alone(alloc, message))
 }
 
 /// Returns the message for a rule that allows nothing that is found. Fails if memory is refused.
@@ -115,9 +175,10 @@ fn on_rules(
     alloc: Global,
     lint: Lint,
     part: &str,
-    message: String,
+    wrong: Wrong,
     at: Option<Location>,
 ) -> Result<Diagnostic, AllocError> {
+    let Wrong { message, children } = wrong;
     let mut primary = Vec::new(alloc);
     if let Some(at) = at {
         primary.push(at)?;
@@ -128,12 +189,12 @@ fn on_rules(
         subject: format!(in alloc; "{part}.{METADATA}.{TOOL}")?,
         key: None,
         message,
+        children,
         primary,
         label: None,
         key_at: None,
         also_at: Vec::new(alloc),
         suggestion: None,
-        advice: None,
         span: None,
     })
 }
@@ -145,7 +206,7 @@ pub fn diagnostic_of_fault(
     part: &str,
     it: &FaultAt,
 ) -> Result<Diagnostic, AllocError> {
-    let message = fault_message(alloc, &it.fault)?;
+    let wrong = wrong_of(alloc, &it.fault)?;
     let at = match it.fault {
         Fault::Underscored => {
             let path = path_of(alloc, &[part, METADATA, UNDERSCORED_TOOL])?;
@@ -153,7 +214,7 @@ pub fn diagnostic_of_fault(
         }
         _ => place_in(alloc, places, part, it.field.as_str(), it.entry)?,
     };
-    on_rules(alloc, Lint::Settings, part, message, at)
+    on_rules(alloc, Lint::Settings, part, wrong, at)
 }
 
 /// Returns the diagnostic on a rule of `part`, `package` or `workspace`, that allows nothing that is found. Fails if
@@ -164,7 +225,17 @@ pub fn diagnostic_of_unneeded(
     part: &str,
     rule: &Rule,
 ) -> Result<Diagnostic, AllocError> {
-    let message = unneeded_message(alloc, rule)?;
+    let wrong = Wrong {
+        message: unneeded_message(alloc, rule)?,
+        children: Children::of_help(alloc, String::from_str(alloc, "remove this entry")?)?,
+    };
+    let path = path_in(alloc, part, rule.setting.word(), rule.entry)?;
+    let entry = places.at_path(path.as_str());
     let at = place_in(alloc, places, part, rule.setting.word(), rule.entry)?;
-    on_rules(alloc, Lint::UnneededAllow, part, message, at)
+    let mut diagnostic = on_rules(alloc, Lint::UnneededAllow, part, wrong, at)?;
+    if rule.key.is_none() && rule.entry.is_some() && entry.is_some() {
+        diagnostic.key_at = entry;
+        diagnostic.suggestion = Some(String::new(alloc));
+    }
+    Ok(diagnostic)
 }

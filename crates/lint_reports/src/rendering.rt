@@ -3,6 +3,7 @@
 use crate::diagnostics::{Diagnostic, Reported, weight_word};
 use crate::source_lines::{CUT, Window};
 use crate::weight_rules::Weight;
+use manifest_lints_findings::Children;
 use manifests::places::Location;
 use std::alloc::{AllocError, Global};
 
@@ -278,18 +279,22 @@ fn push_arrow(
     output.push_str(arrow.as_str())
 }
 
-/// Appends the text that says what to write, if there is one.
-fn push_help(
+/// Appends the helps and the notes, below an empty row.
+fn push_children(
     output: &mut String,
     alloc: Global,
     gutter: &str,
-    diagnostic: &Diagnostic,
+    children: &Children,
 ) -> Result<(), AllocError> {
-    if let Some(help) = diagnostic.help(alloc)? {
-        push_row(output, alloc, gutter, "")?;
-        let help = help.as_str();
-        let row = format!(in alloc; "{gutter} = help: {help}\n")?;
-        output.push_str(row.as_str())?;
+    if children.helps.is_empty() && children.notes.is_empty() {
+        return Ok(());
+    }
+    push_row(output, alloc, gutter, "")?;
+    for help in &children.helps {
+        output.push_str(format!(in alloc; "{gutter} = help: {help}\n")?.as_str())?;
+    }
+    for note in &children.notes {
+        output.push_str(format!(in alloc; "{gutter} = note: {note}\n")?.as_str())?;
     }
     Ok(())
 }
@@ -323,6 +328,6 @@ pub fn push_rendered(
         push_row(output, alloc, gutter, "")?;
         push_lines(output, alloc, reported.text, width, &marks)?;
     }
-    push_help(output, alloc, gutter, diagnostic)?;
+    push_children(output, alloc, gutter, &diagnostic.children)?;
     output.push_str("\n")
 }

@@ -1,9 +1,11 @@
 //! Texts of a manifest that a suggestion replaces, and what it replaces them with.
 
 use crate::diagnostics::Diagnostic;
+use crate::removals::removals_of;
 use manifest_lints_findings::{Code, Lint};
 use manifests::places::Location;
 use std::alloc::{AllocError, Global};
+use toml_spans::Position;
 
 /// A replacement for a name that the text of a manifest spells.
 #[derive(Drop)]
@@ -65,7 +67,8 @@ pub fn quoted_key(alloc: Global, name: &str) -> Result<String, AllocError> {
 /// applied by a machine.
 fn applicability_of(lint: Option<Lint>) -> &'static str {
     match lint {
-        Some(Lint::Key(Code::NotCanonical | Code::ReadOtherwise) | Lint::Underscored) => SURE,
+        Some(Lint::Key(Code::NotCanonical | Code::ReadOtherwise)) => SURE,
+        Some(Lint::Underscored | Lint::UnneededAllow) => SURE,
         _ => "MaybeIncorrect",
     }
 }
@@ -73,24 +76,40 @@ fn applicability_of(lint: Option<Lint>) -> &'static str {
 /// Returns a suggestion as the text of a manifest spells it: a key in quotes, and the name of a table without.
 fn spelled(alloc: Global, lint: Option<Lint>, suggestion: &str) -> Result<String, AllocError> {
     match lint {
-        Some(Lint::Underscored) => String::from_str(alloc, suggestion),
+        Some(Lint::Underscored | Lint::UnneededAllow) => String::from_str(alloc, suggestion),
         _ => quoted_key(alloc, suggestion),
     }
 }
 
-/// Returns the replacement that a diagnostic suggests, if it suggests one and the place of the name is known. Fails if
-/// memory is refused.
+/// Returns what is to be deleted of a text to remove the entry of a list at this place.
+fn place_of_removal(alloc: Global, text: &str, at: Location) -> Result<Location, AllocError> {
+    let removals = removals_of(alloc, text, &[at.span])?;
+    let span = removals.first().copied().unwrap_or(at.span);
+    let start = Position::START.behind(text.get(..span.start).unwrap_or(""));
+    Ok(Location {
+        span,
+        line: start.line,
+        column: start.column,
+    })
+}
+
+/// Returns the replacement that a diagnostic on a manifest with this text suggests, if it suggests one and the place of
+/// the name is known. Fails if memory is refused.
 pub fn replacement_of(
     alloc: Global,
+    text: &str,
     diagnostic: &Diagnostic,
 ) -> Result<Option<Replacement>, AllocError> {
     match (&diagnostic.suggestion, diagnostic.key_at) {
         (Some(suggestion), Some(at)) => {
-            let text = spelled(alloc, diagnostic.lint, suggestion.as_str())?;
+            let at = match diagnostic.removed_entry() {
+                Some(_) => place_of_removal(alloc, text, at)?,
+                None => at,
+            };
             Ok(Some(Replacement {
                 at,
                 also_at: diagnostic.also_at.clone()?,
-                text,
+                text: spelled(alloc, diagnostic.lint, suggestion.as_str())?,
                 applicability: applicability_of(diagnostic.lint),
             }))
         }

@@ -280,9 +280,9 @@ fn locations_of(alloc: Global, reported: &Reported<'_>) -> Result<Vec<Location>,
     Ok(locations)
 }
 
-/// Returns the subject and the message of a diagnostic.
+/// Returns the subject, the message, the helps and the notes of a diagnostic.
 fn message_of(alloc: Global, reported: &Reported<'_>) -> Result<OwnedMessage, AllocError> {
-    let text = reported.diagnostic.sentence(alloc)?;
+    let text = reported.diagnostic.paragraph(alloc)?;
     Ok(OwnedMessage { text })
 }
 
@@ -307,8 +307,8 @@ fn fix_of(
     for at in &replacement.also_at {
         replacements.push(rewrite_at(reported, *at, &replacement.text)?)?;
     }
-    let written = replacement.text.as_str();
-    let description = format!(in alloc; "write `{written}`")?;
+    let help = reported.diagnostic.help_of_suggestion().unwrap_or("");
+    let description = String::from_str(alloc, help)?;
     let change = ArtifactChange {
         artifact_location: ArtifactLocation {
             uri: uri_of(alloc, reported.path)?,
@@ -324,7 +324,7 @@ fn fix_of(
 /// Returns the change that a diagnostic suggests, if it suggests one.
 fn fixes_of(alloc: Global, reported: &Reported<'_>) -> Result<Vec<Fix>, AllocError> {
     let mut fixes = Vec::new(alloc);
-    if let Some(replacement) = replacement_of(alloc, reported.diagnostic)? {
+    if let Some(replacement) = replacement_of(alloc, reported.text, reported.diagnostic)? {
         fixes.push(fix_of(alloc, reported, &replacement)?)?;
     }
     Ok(fixes)

@@ -36,7 +36,7 @@ impl Rejected {
         }
     }
 
-    /// Returns the line about a manifest with this path for people. Fails if memory is refused.
+    /// Returns the line about a manifest with this path for people. Fails if an allocation fails.
     pub fn text(&self, alloc: Global, path: &str) -> Result<String, AllocError> {
         let reason = self.reason.as_str();
         match self.line() {
@@ -227,7 +227,10 @@ fn rejected_place(alloc: Global, manifest: &Table) -> Result<Option<At>, AllocEr
         if it.level == Level::Error {
             let subject = it.subject.as_str();
             let message = it.message.as_str();
-            let reason = format!(in alloc; "{subject}: {message}")?;
+            let reason = match it.children.helps.first() {
+                Some(help) => format!(in alloc; "{subject}: {message}; {help}")?,
+                None => format!(in alloc; "{subject}: {message}")?,
+            };
             let path = keys_of(alloc, subject)?;
             return Ok(Some(At {
                 path,
@@ -297,7 +300,7 @@ fn first_rejected(
 /// dependency that can't be inherited. What is inherited has been put in its place. Returns `None` if there is nothing
 /// of this.
 ///
-/// Fails only where memory runs out.
+/// Fails only if an allocation fails.
 pub fn rejected_by_cargo(
     alloc: Global,
     document: &Document,

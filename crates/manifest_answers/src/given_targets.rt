@@ -1,13 +1,14 @@
 //! The targets of another rustc, from a file that replaces the built-in ones.
 
-use cargo_platform::{Cfg, Platform};
+use cargo_platform::{Cfg, CfgExpr, Platform};
+use exact_answers::{CanSelect, Known, MustSelect, always_platform, can_hold_platform};
 use input_limits::without_mark;
 use key_answers::answer::Refusal;
 use key_answers::printing::{refused_fact, shown_name};
 use known_targets::having;
 use manifest_lints_findings::near;
 use manifests::Asked;
-use partial_facts::decide_platform;
+use partial_facts::{decide_platform, residual_platform};
 use std::alloc::{AllocError, Global};
 use std::collections::BTreeSet;
 use target_tables::{TableError, TargetRow, TargetTable, read_table};
@@ -167,9 +168,16 @@ impl GivenTargets {
         Ok(names)
     }
 
-    /// Returns whether the condition may be true on no target, and whether it is certainly true on each, whatever facts
-    /// these names and keys have.
-    pub fn none_and_each<'x>(&'x self, condition: &Platform, open: &'x [&'x str]) -> (bool, bool) {
+    /// Returns whether a condition of so many facts is true on no target, and whether it is true on each, whichever
+    /// facts with these names and keys are set. With more than `FEW` facts, only what each fact says by itself counts.
+    /// Fails if memory is refused.
+    pub fn none_and_each<'x>(
+        &'x self,
+        alloc: Global,
+        condition: &Platform,
+        open: &'x [&'x str],
+        facts: usize,
+    ) -> Result<(bool, bool), AllocError> {
         let mut none = true;
         let mut each = true;
         for row in self.table.rows() {
@@ -178,16 +186,21 @@ impl GivenTargets {
                 added: &[],
                 open,
             };
-            match decide_platform(condition, Some(row.name()), &known) {
-                Some(true) => none = false,
-                Some(false) => each = false,
+            let (can_hold, can_fail) = match decide_platform(condition, Some(row.name()), &known) {
+                Some(truth) => (truth, !truth),
+                None if facts > FEW => (true, true),
                 None => {
-                    none = false;
-                    each = false;
+                    let left = residual_platform(alloc, condition, Some(row.name()), &known)?;
+                    can_be(alloc, &left)?
                 }
+            };
+            none = none && !can_hold;
+            each = each && !can_fail;
+            if !none && !each {
+                break;
             }
         }
-        (none, each)
+        Ok((none, each))
     }
 
     /// Returns whether one of the targets has the fact.
@@ -211,4 +224,31 @@ impl GivenTargets {
         }
         Ok(texts)
     }
+}
+
+/// The maximum number of facts of a condition that is searched on each target.
+const FEW: usize = 64;
+
+/// The maximum number of case splits in a search on one target.
+const SPLITS: u64 = 64;
+
+/// Returns whether a condition of which nothing is known can be true, and whether it can be false, for all that
+/// `SPLITS` case splits show.
+fn can_be(alloc: Global, condition: &Platform) -> Result<(bool, bool), AllocError> {
+    let anything = CfgExpr::True;
+    let known = Known {
+        facts: &[],
+        complete: &[],
+        single: &[],
+        assumed: &anything,
+    };
+    let can_hold = match can_hold_platform(alloc, condition, &known, SPLITS)? {
+        CanSelect::No => false,
+        CanSelect::Yes(_) | CanSelect::Undecided => true,
+    };
+    let can_fail = match always_platform(alloc, condition, &known, SPLITS)? {
+        MustSelect::Yes => false,
+        MustSelect::No(_) | MustSelect::Undecided => true,
+    };
+    Ok((can_hold, can_fail))
 }

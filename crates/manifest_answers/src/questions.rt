@@ -63,13 +63,20 @@ fn is_told(code: Code, has_facts: bool) -> bool {
     code != Code::Custom || !has_facts
 }
 
-/// Appends the line of a finding.
+/// Appends the lines of a finding: its message, and what belongs to it.
 fn push_finding(text: &mut String, alloc: Global, finding: &Finding) -> Result<(), AllocError> {
     let level = finding.level.word();
     let code = finding.code.word();
     let message = finding.message.as_str();
     let line = format!(in alloc; "{level}[{code}]: {message}\n")?;
-    text.push_str(line.as_str())
+    text.push_str(line.as_str())?;
+    for help in &finding.children.helps {
+        text.push_str(format!(in alloc; "  = help: {help}\n")?.as_str())?;
+    }
+    for note in &finding.children.notes {
+        text.push_str(format!(in alloc; "  = note: {note}\n")?.as_str())?;
+    }
+    Ok(())
 }
 
 /// Returns the warnings for names and facts in a key that no known target has.
@@ -90,7 +97,7 @@ fn unknown_lines(
 }
 
 /// Returns the warnings for names and values in a key that rustc sets on no known target, and for an unknown target
-/// name, a line each. There is none for what only `--cfg` sets, or for an empty key.
+/// name, each with its helps and notes. There is none for what only `--cfg` sets, or for an empty key.
 pub fn unknown_words(alloc: Global, key: &str) -> Result<String, Refusal> {
     if key.is_empty() {
         return Ok(String::new(alloc));

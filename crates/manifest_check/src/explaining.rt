@@ -29,6 +29,6 @@ pub fn explained_code(alloc: Global, word: &str) -> Result<Answer> {
             return Ok(Answer::of(alloc, text, Status::Fine));
         }
     }
-    let message = unknown_lint(alloc, word)?;
+    let message = unknown_lint(alloc, word)?.line(alloc)?;
     bail!("{message}")
 }

@@ -1,15 +1,16 @@
 //! `lint --fix`: the suggestions of diagnostics, applied to a manifest.
 
 use crate::replacing::{CHANGED, FileChange, text_read, write_change};
+use crate::sameness::{Renames, is_same_manifest};
 use cargo_platform::shown_text;
 use input_limits::without_mark;
 use key_answers::answer::{Answer, Status};
-use lint_reports::{Diagnostic, Replacement, replacement_of};
+use lint_reports::{Diagnostic, Replacement, removals_of, replacement_of};
 use std::alloc::{AllocError, Global};
 use std::collections::{BTreeMap, BTreeSet};
 use std::rt::Files;
 use text_edits::{Edit, apply, unified_diff};
-use toml::{Table, Value};
+use toml::Table;
 use toml_parser::ParseError;
 use toml_spans::{Span, name_at_front};
 use workspaces::{Documents, table_in, table_of};
@@ -45,6 +46,8 @@ pub struct Fixes {
     /// The text of the manifest.
     text: String,
     fixes: Vec<Fix>,
+    /// The spans of entries that are to be removed from their lists.
+    removed: Vec<Span>,
 }
 
 /// A manifest after fixes.
@@ -136,7 +139,21 @@ impl Fixes {
             fixing,
             text: String::new(alloc),
             fixes: Vec::new(alloc),
+            removed: Vec::new(alloc),
         }
+    }
+
+    /// Returns whether there are none.
+    fn is_empty(&self) -> bool {
+        self.fixes.is_empty() && self.removed.is_empty()
+    }
+
+    /// Records the text of the manifest, before the first fix.
+    fn note_text(&mut self, alloc: Global, text: &str) -> Result<(), AllocError> {
+        if self.is_empty() {
+            self.text = String::from_str(alloc, text)?;
+        }
+        Ok(())
     }
 
     /// Adds the fix of a diagnostic on a manifest with this text, if it has one that is to be applied.
@@ -146,17 +163,20 @@ impl Fixes {
         text: &str,
         diagnostic: &Diagnostic,
     ) -> Result<(), AllocError> {
-        let Some(replacement) = replacement_of(alloc, diagnostic)? else {
+        let Some(replacement) = replacement_of(alloc, text, diagnostic)? else {
             return Ok(());
         };
         if !replacement.is_sure() && !self.fixing.is_unsafe {
             return Ok(());
         }
+        if let Some(entry) = diagnostic.removed_entry() {
+            self.note_text(alloc, text)?;
+            self.removed.push(entry)?;
+            return Ok(());
+        }
         let is_key = diagnostic.key().is_some();
         if let Some(fix) = Fix::of(alloc, text, replacement, is_key)? {
-            if self.fixes.is_empty() {
-                self.text = String::from_str(alloc, text)?;
-            }
+            self.note_text(alloc, text)?;
             self.fixes.push(fix)?;
         }
         Ok(())
@@ -216,24 +236,36 @@ fn chosen_fixes(alloc: Global, fixes: Vec<Fix>, manifest: &Table) -> Result<Vec<
     Ok(chosen)
 }
 
-/// Returns the edits of fixes, in the order of the text, which has so many bytes before the text of the fixes.
-fn edits_of(alloc: Global, fixes: &[Fix], before: usize) -> Result<Vec<Edit>, AllocError> {
+/// Returns the edit that replaces a span of a text, which has so many bytes before it, by this text.
+fn edit_at(span: Span, before: usize, text: String) -> Edit {
+    Edit {
+        start: span.start.saturating_add(before),
+        end: span.end.saturating_add(before),
+        text,
+    }
+}
+
+/// Returns the edits of fixes of a text, and those that remove entries of its lists, in the order of the text, which
+/// has so many bytes before it.
+fn edits_of(
+    alloc: Global,
+    text: &str,
+    fixes: &[Fix],
+    removed: &[Span],
+    before: usize,
+) -> Result<Vec<Edit>, AllocError> {
     let mut edits: Vec<Edit> = Vec::new(alloc);
     for fix in fixes {
         for span in &fix.spans {
-            edits.push(Edit {
-                start: span.start.saturating_add(before),
-                end: span.end.saturating_add(before),
-                text: fix.text.clone()?,
-            })?;
+            edits.push(edit_at(*span, before, fix.text.clone()?))?;
         }
+    }
+    for span in &removals_of(alloc, text, removed)? {
+        edits.push(edit_at(*span, before, String::new(alloc)))?;
     }
     edits.sort_by_key(|it| it.start)?;
     Ok(edits)
 }
-
-/// The new names of fixes, by the old ones.
-type Renames = BTreeMap<String, String>;
 
 /// Returns the new names of fixes, by the old ones.
 fn renames_of(alloc: Global, fixes: &[Fix]) -> Result<Renames, AllocError> {
@@ -244,93 +276,37 @@ fn renames_of(alloc: Global, fixes: &[Fix]) -> Result<Renames, AllocError> {
     Ok(renames)
 }
 
-/// Returns the member of a fixed table that had this name before.
-fn renamed<'a>(renames: &Renames, fixed: &'a Table, name: &str) -> Option<&'a Value> {
-    if let Some(value) = fixed.get(name) {
-        return Some(value);
-    }
-    match renames.get(name) {
-        Some(to) => fixed.get(to.as_str()),
-        None => None,
-    }
-}
-
-/// Returns whether a fixed value is the same but for new names of its members.
-fn is_same_key(value: &Value, fixed: &Value, renames: &Renames) -> bool {
-    let (Some(table), Some(fixed_table)) = (value.as_table(), fixed.as_table()) else {
-        return *value == *fixed;
-    };
-    if table.len() != fixed_table.len() {
-        return false;
-    }
-    for (name, member) in table.iter() {
-        match renamed(renames, fixed_table, name.as_str()) {
-            Some(other) if *member == *other => {}
-            _ => return false,
-        }
-    }
-    true
-}
-
-/// Returns whether a fixed `target` is the same but for new names of keys, and of their members.
-fn is_same_target(value: &Value, fixed: &Value, renames: &Renames) -> bool {
-    let (Some(keys), Some(fixed_keys)) = (value.as_table(), fixed.as_table()) else {
-        return *value == *fixed;
-    };
-    if keys.len() != fixed_keys.len() {
-        return false;
-    }
-    for (name, key) in keys.iter() {
-        match renamed(renames, fixed_keys, name.as_str()) {
-            Some(other) if is_same_key(key, other, renames) => {}
-            _ => return false,
-        }
-    }
-    true
-}
-
-/// Returns whether a fixed manifest is the same but for new names of its tables, of the keys of `target`, and of the
-/// tables below these.
-fn is_same_manifest(manifest: &Table, fixed: &Table, renames: &Renames) -> bool {
-    if manifest.len() != fixed.len() {
-        return false;
-    }
-    for (name, value) in manifest.iter() {
-        let is_same = match renamed(renames, fixed, name.as_str()) {
-            Some(other) if name.as_str() == "target" => is_same_target(value, other, renames),
-            Some(other) => *value == *other,
-            None => false,
-        };
-        if !is_same {
-            return false;
-        }
-    }
-    true
-}
-
 /// Applies fixes to a text, with or without a byte order mark, unless it is then another document.
-fn fixed_text(alloc: Global, text: &str, fixes: Vec<Fix>) -> Result<Outcome, AllocError> {
+fn fixed_text(
+    alloc: Global,
+    text: &str,
+    fixes: Vec<Fix>,
+    mut removed: Vec<Span>,
+) -> Result<Outcome, AllocError> {
     let Some(manifest) = table_of(alloc, text)? else {
         return Ok(Outcome::Unchanged);
     };
     let fixes = chosen_fixes(alloc, fixes, &manifest)?;
-    if fixes.is_empty() {
+    if fixes.is_empty() && removed.is_empty() {
         return Ok(Outcome::Unchanged);
     }
-    let mark = text.len().saturating_sub(without_mark(text).len());
-    let edits = edits_of(alloc, &fixes, mark)?;
+    removed.sort_by_key(|span| span.start)?;
+    let unmarked = without_mark(text);
+    let mark = text.len().saturating_sub(unmarked.len());
+    let edits = edits_of(alloc, unmarked, &fixes, &removed, mark)?;
     let fixed = apply(alloc, text, &edits)?.text;
     let Some(table) = table_of(alloc, fixed.as_str())? else {
         return Ok(Outcome::Refused("the fixed text would not be TOML"));
     };
-    if !is_same_manifest(&manifest, &table, &renames_of(alloc, &fixes)?) {
+    let renames = renames_of(alloc, &fixes)?;
+    if !is_same_manifest(alloc, &manifest, &table, &renames, removed.len())? {
         return Ok(Outcome::Refused("the fixed text would be another document"));
     }
     Ok(Outcome::Fixed(FixedText {
         text: fixed,
         table,
         edits,
-        count: fixes.len(),
+        count: fixes.len().saturating_add(removed.len()),
     }))
 }
 
@@ -384,8 +360,9 @@ fn fix_text<R: Files + AllocGlobal>(
         fixing,
         text: _text,
         fixes,
+        removed,
     } = fixes;
-    let fixed = match fixed_text(alloc, before, fixes)? {
+    let fixed = match fixed_text(alloc, before, fixes, removed)? {
         Outcome::Unchanged => return Ok(Answer::of(alloc, String::new(alloc), Status::Fine)),
         Outcome::Refused(reason) => return not_fixed(alloc, path, reason),
         Outcome::Fixed(fixed) => fixed,
@@ -424,7 +401,7 @@ pub fn fix_file<R: Files + AllocGlobal>(
     fixes: Fixes,
 ) -> Result<Answer, AllocError> {
     let alloc = rt.alloc();
-    if fixes.fixes.is_empty() {
+    if fixes.is_empty() {
         return Ok(Answer::of(alloc, String::new(alloc), Status::Fine));
     }
     let is_quiet = fixes.fixing.is_quiet;

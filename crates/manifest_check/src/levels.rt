@@ -38,7 +38,7 @@ fn rule_of(alloc: Global, setting: Setting, word: &str) -> Result<Rule> {
             entry: None,
         }),
         None => {
-            let message = unknown_subject(alloc, word)?;
+            let message = unknown_subject(alloc, word)?.line(alloc)?;
             bail!("{message}");
         }
     }

@@ -164,13 +164,47 @@ impl<'a> Telling<'a> {
         Ok(())
     }
 
-    /// Reports the diagnostics on the settings of a workspace's root, after those on its members.
-    fn tell_root<R: Files + AllocGlobal>(&mut self, rt: &R, root: &Root) -> Result<(), AllocError> {
+    /// Applies the fixes for the settings of a workspace's root, and reads them again.
+    fn fix_root<R: Files + AllocGlobal>(
+        &mut self,
+        rt: &R,
+        root: &mut Root,
+        is_whole: bool,
+        fixing: Fixing,
+    ) -> Result<(), AllocError> {
+        let alloc = rt.alloc();
+        let places = places_at(rt, &mut self.documents, root.file.as_str())?;
+        let mut fixes = Fixes::new(alloc, fixing);
+        for diagnostic in &found_in_root(alloc, root, &places, is_whole)? {
+            let rules = Rules {
+                of_workspace: &root.settings.rules,
+                of_package: &[],
+                of_command: &self.asked.rules,
+            };
+            if weight_of(&rules, diagnostic) != Weight::Allowed {
+                fixes.add(alloc, places.text.as_str(), diagnostic)?;
+            }
+        }
+        let answer = fix_file(rt, &mut self.documents, root.file.as_str(), fixes)?;
+        self.answer.append(answer)?;
+        root.read_again(rt, &mut self.documents)
+    }
+
+    /// Reports the diagnostics on the settings of a workspace's root, after those on its members. With `--fix`, its
+    /// fixes are applied before.
+    fn tell_root<R: Files + AllocGlobal>(
+        &mut self,
+        rt: &R,
+        root: &mut Root,
+    ) -> Result<(), AllocError> {
         let alloc = rt.alloc();
         let asked = self.asked;
         let is_whole = asked.is_whole && root.is_asked;
         if !root.has_diagnostics(is_whole) {
             return Ok(());
+        }
+        if let Some(fixing) = asked.fixing {
+            self.fix_root(rt, root, is_whole, fixing)?;
         }
         let rules = Rules {
             of_workspace: &root.settings.rules,
@@ -338,6 +372,43 @@ fn is_left_out(root: &Root, report: &Report<'_>, beside: &Beside<'_>, finding: &
     }
 }
 
+/// A diagnostic on a key, with the index of the key.
+#[derive(Drop)]
+struct OnKey {
+    index: usize,
+    diagnostic: Diagnostic,
+}
+
+/// Returns the diagnostics on keys, in the order of the keys: for each those of the report, and then those on names
+/// that rustc knew only until some release, in the order of their places.
+fn found_on_keys(
+    alloc: Global,
+    root: &Root,
+    places: &Places,
+    report: &Report<'_>,
+    beside: &Beside<'_>,
+) -> Result<Vec<OnKey>, AllocError> {
+    let mut found = Vec::new(alloc);
+    for finding in &report.findings {
+        if !is_left_out(root, report, beside, finding) {
+            found.push(OnKey {
+                index: finding.key.unwrap_or(0),
+                diagnostic: diagnostic_of(alloc, places, report, finding)?,
+            })?;
+        }
+    }
+    for diagnostic in formers_in(alloc, places, &beside.formers)? {
+        let mut keys = report.keys.iter();
+        let index = keys.position(|it| diagnostic.key() == Some(it.text));
+        found.push(OnKey {
+            index: index.unwrap_or(0),
+            diagnostic,
+        })?;
+    }
+    found.sort_by_key(|it| it.index)?;
+    Ok(found)
+}
+
 /// Returns the diagnostics on a manifest, before rules apply.
 fn found_in(
     alloc: Global,
@@ -347,13 +418,11 @@ fn found_in(
     beside: &Beside<'_>,
 ) -> Result<Vec<Diagnostic>, AllocError> {
     let mut found = Vec::new(alloc);
-    for finding in &report.findings {
-        if !is_left_out(root, report, beside, finding) {
-            found.push(diagnostic_of(alloc, places, report, finding)?)?;
-        }
-    }
-    for it in formers_in(alloc, places, &beside.formers)? {
-        found.push(it)?;
+    for OnKey {
+        index: _,
+        diagnostic,
+    } in found_on_keys(alloc, root, places, report, beside)? {
+        found.push(diagnostic)?;
     }
     for it in &beside.wrong {
         found.push(diagnostic_of_wrong(alloc, places, it)?)?;
@@ -658,12 +727,12 @@ pub fn lint_each<R: Files + Input + Env + AllocGlobal>(
         let manifest = manifest_of(alloc, path)?;
         let documents = &mut telling.documents;
         if let Some(other) = Root::of(rt, documents, manifest.as_str(), &root)? {
-            telling.tell_root(rt, &root)?;
+            telling.tell_root(rt, &mut root)?;
             root = other;
         }
         lint_named(rt, paths, path, &words, &mut root, &mut telling)?;
     }
-    telling.tell_root(rt, &root)?;
+    telling.tell_root(rt, &mut root)?;
     let Telling {
         asked: _,
         documents: _,

@@ -15,6 +15,7 @@ mod other_rustc;
 mod replacing;
 mod reports;
 mod roots;
+mod sameness;
 mod styles;
 mod target_names;
 mod words;

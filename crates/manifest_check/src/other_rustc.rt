@@ -7,7 +7,7 @@ use known_targets::KnownTarget;
 use manifest_answers::given_targets::GivenTargets;
 use manifest_lints::{Code, Report};
 use manifest_lints_findings::readings::Spelled;
-use manifest_lints_findings::{Finding, Pointed};
+use manifest_lints_findings::{Children, Finding, Pointed};
 use manifest_lints_standings::asked_facts::{asked_facts, open_names};
 use manifests::Declared;
 use std::alloc::{AllocError, Global};
@@ -92,11 +92,11 @@ impl OtherRustc {
             let told = format!(in alloc;
                 "no target of {file} has facts that make the condition true"
             )?;
-            added.push(finding(alloc, place, Code::Nowhere, told, None))?;
+            added.push(finding(alloc, place, Code::Nowhere, told))?;
         }
         if each && !hides.everywhere {
             let told = format!(in alloc; "the condition holds at every target of {file}")?;
-            added.push(finding(alloc, place, Code::Everywhere, told, None))?;
+            added.push(finding(alloc, place, Code::Everywhere, told))?;
         }
         Ok(())
     }
@@ -115,16 +115,14 @@ impl OtherRustc {
     /// Returns the diagnostic that no target has the name of the key at this index.
     fn unknown(&self, alloc: Global, place: usize, name: &str) -> Result<Finding, AllocError> {
         let file = self.given.file.as_str();
-        let mut told = format!(in alloc; "no target of {file} has this name")?;
-        let nearest = match self.given.nearest(alloc, name)? {
-            Some(nearest) => {
-                let perhaps = format!(in alloc; " (did you mean `{nearest}`?)")?;
-                told.push_str(perhaps.as_str())?;
-                Some(String::from_str(alloc, nearest)?)
-            }
-            None => None,
-        };
-        Ok(finding(alloc, place, Code::UnknownTarget, told, nearest))
+        let told = format!(in alloc; "no target of {file} has this name")?;
+        let mut finding = finding(alloc, place, Code::UnknownTarget, told);
+        if let Some(nearest) = self.given.nearest(alloc, name)? {
+            let help = format!(in alloc; "did you mean `{nearest}`?")?;
+            finding.children = Children::of_help(alloc, help)?;
+            finding.suggestion = Some(String::from_str(alloc, nearest)?);
+        }
+        Ok(finding)
     }
 
     /// Returns whether the condition is true on none and on all of its targets, whatever the open names are.
@@ -135,12 +133,13 @@ impl OtherRustc {
         declared: &Declared<'_>,
     ) -> Result<(bool, bool), AllocError> {
         let mut asked = asked_facts(alloc, &values_of(alloc, condition)?, &[], declared)?;
+        let facts = asked.len();
         asked.retain(|it| !self.given.has(it.fact));
         let open = open_names(alloc, &asked)?;
         if open.len() > MANY {
             return Ok((false, false));
         }
-        Ok(self.given.none_and_each(condition, &open))
+        self.given.none_and_each(alloc, condition, &open, facts)
     }
 }
 
@@ -229,20 +228,15 @@ fn hiding_of(alloc: Global, report: &Report<'_>) -> Result<Vec<Hiding>, AllocErr
     Ok(hiding)
 }
 
-/// Returns a diagnostic on the key at this index.
-fn finding(
-    alloc: Global,
-    place: usize,
-    code: Code,
-    message: String,
-    suggestion: Option<String>,
-) -> Finding {
+/// Returns a diagnostic on the key at this index, without a suggestion.
+fn finding(alloc: Global, place: usize, code: Code, message: String) -> Finding {
     Finding {
         level: code.row().level,
         code,
         key: Some(place),
         message,
-        suggestion,
+        children: Children::none(alloc),
+        suggestion: None,
         span: None,
         snippet: None,
         pointed: Pointed::nothing(alloc),

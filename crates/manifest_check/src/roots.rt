@@ -101,6 +101,31 @@ impl Root {
             || is_whole && unneeded.any(|(rule, is_needed)| is_unneeded(rule, *is_needed))
     }
 
+    /// Reads its settings again, from which entries that nothing needs have been removed. Of the rules that are left,
+    /// those are needed that were needed before.
+    pub fn read_again<R: Files + AllocGlobal>(
+        &mut self,
+        rt: &R,
+        documents: &mut Documents,
+    ) -> Result<(), AllocError> {
+        let alloc = rt.alloc();
+        let document = documents.get(rt, self.file.as_str())?;
+        let settings = settings_in(alloc, document)?;
+        let mut needed = Vec::new(alloc);
+        for rule in &settings.rules {
+            needed.push(self.needs(rule))?;
+        }
+        self.settings = settings;
+        self.needed = needed;
+        Ok(())
+    }
+
+    /// Returns whether a diagnostic needs a rule of these properties.
+    fn needs(&self, rule: &Rule) -> bool {
+        let mut rules = self.settings.rules.iter().zip(&self.needed);
+        rules.any(|(other, is_needed)| *is_needed && is_same_rule(other, rule))
+    }
+
     /// Returns whether its manifest is the one at a path.
     pub fn is_at(&self, alloc: Global, path: &str) -> Result<bool, AllocError> {
         let path = shorter(alloc, path)?;
@@ -132,6 +157,13 @@ impl Root {
             }
         }
     }
+}
+
+/// Returns whether two rules set the same for the same diagnostics.
+fn is_same_rule(first: &Rule, second: &Rule) -> bool {
+    first.setting == second.setting
+        && first.subject.word() == second.subject.word()
+        && first.key == second.key
 }
 
 /// Returns whether a rule allows something that no diagnostic needs.

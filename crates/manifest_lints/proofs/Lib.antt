@@ -1,5 +1,6 @@
 pub mod Verdicts
 pub mod Tried
+pub mod AtTargets
 pub mod Noting
 pub mod SetWords
 pub mod Rows

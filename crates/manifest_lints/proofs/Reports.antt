@@ -16,7 +16,8 @@ use Rattle.manifest_lints_findings.specs.declared.known_keys.KnownKey.{KnownKey}
 use Rattle.manifest_lints_findings.specs.declared.readings.ReadKey.{ReadKey}
 use Rattle.manifest_lints_findings.specs.Codes.{CodeSet, finding_level}
 use Rattle.manifest_lints_findings.specs.Marks.{Mark, mark}
-use Rattle.manifest_lints_findings.specs.Messages.{NamesKey, Shows}
+use Rattle.manifest_lints_findings.specs.Messages.{NamesKey, Shows, noted_texts, help_texts, said}
+use Rattle.manifest_lints_findings.specs.Texts.{Mentions}
 use Rattle.manifest_lints_findings.specs.Shown.{IsMended, IsShownOn}
 use Rattle.manifest_lints_findings.specs.Spells.{entry_read}
 use Rattle.manifests.specs.Declarations.{DeclaredEntry}
@@ -161,11 +162,13 @@ pub one_told : (fs gs : List Finding) (f : Finding) (b : Bool) (m : Mark) (other
     → gs ≡ fs ++ f ∷ []
     → mark f ≡ m → b ≡ true → NamesKey m.1 other (string_bytes f.message)
     → f.level ≡ finding_level m.1 (length key.asked.items)
-    → Shows m.1 key f.suggestion (string_bytes f.message)
+    → Shows m.1 key (string_bytes f.message)
+    → Mentions (noted_texts m.1 key) (said f.children.notes.items)
+    → Mentions (help_texts m.1 key f.suggestion) (said f.children.helps.items)
     → IsShownOn m.1 key f
     → IfSome f.suggestion (λ s. IsMended m.1 (string_bytes s))
     → AddsFindings (cond b (m ∷ []) []) other key fs gs
-one_told fs gs f b m other key pushed is told names level shows shown mended = record {
+one_told fs gs f b m other key pushed is told names level shows notes helps shown mended = record {
   added = f ∷ [];
   are = pushed;
   marks_are = ap (λ y. y ∷ []) is ∙ sym (ap (λ c. cond c (m ∷ []) []) told);
@@ -174,7 +177,7 @@ one_told fs gs f b m other key pushed is told names level shows shown mended = r
       (subst (λ c. NamesKey c other (string_bytes f.message)) (sym (ap (λ (x : Mark). x.1) is)) names);
   shown = All-push (ShowsKey key) [] f (All-nil (ShowsKey key))
       (subst (λ c. IsDiagnosticOn c key f) (sym (ap (λ (x : Mark). x.1) is))
-      (record { level = level; message = shows; shown = shown; suggestion = mended }));
+      (record { level = level; message = shows; notes = notes; helps = helps; shown = shown; suggestion = mended }));
 }
 
 pub none_told : (fs : List Finding) (b : Bool) (m : Mark) (other : List ℕ) (key : KnownKey) → b ≡ false

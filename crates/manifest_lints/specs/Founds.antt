@@ -1,5 +1,5 @@
 -- The answers about a key, and the lints that apply to it. The promises about a report do not depend on these words.
-use Rattle.std.specs.Prelude.{◌<◌, List, IsTrue, length}
+use Rattle.std.specs.Prelude.{◌<◌, true, false, List, IsTrue, length}
 use Rattle.cargo_platform.specs.Trees.{Condition}
 use Rattle.exact_answers.specs.declared.known.Known.{Known}
 use Rattle.manifests.specs.Declarations.{DeclaredEntry}
@@ -7,19 +7,19 @@ use Rattle.manifest_lints_standings.specs.Standings.{sorted_in, open_in}
 use Rattle.manifest_lints_findings.specs.declared.codes.Code.TheVariants as code
 use Rattle.manifest_lints_findings.specs.Codes.{CodeSet}
 use Rattle.manifest_lints_findings.specs.Known.{holds_alone}
-use Rattle.manifest_lints.specs.declared.deciding.TheConstants.{MANY}
-use Rattle.manifest_lints.specs.Truths.{IsNever, IsAlways, CanHold, CanFail, IsNowhere, IsEverywhere}
+use Rattle.manifest_lints.specs.declared.at_targets.TheConstants.{MANY}
+use Rattle.manifest_lints.specs.Truths.{IsNever, IsAlways, CanHold, CanFail}
 use Rattle.manifest_lints.specs.Earlier.{is_same, is_equivalent}
 use Rattle.manifest_lints.specs.declared.found.Answers.{Answers}
 use Rattle.manifest_lints.specs.declared.found.Found.{Found}
-use Rattle.manifest_lints.specs.Reports.{Settles, SettlesFew}
+use Rattle.manifest_lints.specs.Reports.{Settles, SettlesPlaces}
 
 -- the answers about a condition by itself are right
 pub record AnswersFor (k : Known) (ds : List DeclaredEntry) (c : Condition) (a : Answers) : Type 0 where
   pub never : Settles a.is_open a.never (IsNever k c) (CanHold k c)
   pub always : Settles a.is_open a.always (IsAlways k c) (CanFail k c)
-  pub nowhere : SettlesFew (open_in (sorted_in ds c)) a.nowhere (IsNowhere (open_in (sorted_in ds c)) c)
-  pub everywhere : SettlesFew (open_in (sorted_in ds c)) a.everywhere (IsEverywhere (open_in (sorted_in ds c)) c)
+  pub nowhere : SettlesPlaces true ds c a.nowhere
+  pub everywhere : SettlesPlaces false ds c a.everywhere
   pub many : MANY < length (open_in (sorted_in ds c)) → IsTrue a.is_open
 
 -- the lints that apply to a key: by its answers, and by the key itself

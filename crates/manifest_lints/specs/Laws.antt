@@ -1,7 +1,8 @@
 -- The constants of reports, by value.
 use Rattle.std.specs.Prelude.{◌≡◌, [], ◌∷◌, codes, map}
 use Rattle.partial_facts.specs.declared.one_valued.TheConstants.{ONE_VALUED}
-use Rattle.manifest_lints.specs.declared.deciding.TheConstants.{MANY, LEVELS}
+use Rattle.manifest_lints.specs.declared.at_targets.TheConstants.{MANY, SPLITS_AT}
+use Rattle.manifest_lints.specs.declared.deciding.TheConstants.{FEW, LEVELS}
 use Rattle.manifest_lints.specs.declared.earlier.TheConstants.{MOST}
 
 -- the keys for which rustc sets at most one value
@@ -22,3 +23,7 @@ AreLevels = LEVELS ≡ 20000
 -- the number of keys before one that are not too many
 abbrev pub AreCompared : Type 0
 AreCompared = MOST ≡ 64
+
+-- the number of facts of a condition that are few, and of case splits on a known target
+abbrev pub AreFewAt : Type 0
+AreFewAt = (FEW ≡ 64) × (SPLITS_AT ≡ 64)

@@ -1,4 +1,5 @@
 pub mod Truths
+pub mod AtTargets
 pub mod Doubled
 pub mod Earlier
 pub mod Samples

@@ -1,5 +1,5 @@
 -- The results for the keys of a manifest, lint by lint, and the diagnostics that are reported on them.
-use Rattle.std.specs.Prelude.{◌≡◌, ◌≤◌, ◌<◌, ◌⊎◌, ◌↔◌, ℕ, Bool, false, not, IsTrue, List}
+use Rattle.std.specs.Prelude.{◌≡◌, ◌<◌, ◌⊎◌, ◌↔◌, ℕ, Bool, true, false, not, IsTrue, List}
 use Rattle.std.specs.Prelude.{[], ◌∷◌, ◌++◌, map, length, get_or, cond, bytes_eq, string_bytes, Option, Some, None}
 use Rattle.std.specs.Prelude.{IfSome}
 use Rattle.std.specs.List.{All}
@@ -25,16 +25,19 @@ use Rattle.manifest_lints_findings.specs.declared.known_keys.KnownKey.{KnownKey}
 use Rattle.manifest_lints_findings.specs.declared.readings.ReadKey.{ReadKey}
 use Rattle.manifest_lints_findings.specs.Known.{has_marked_literal, IsKnown}
 use Rattle.manifest_lints_findings.specs.Marks.{Mark, marks}
-use Rattle.manifest_lints_findings.specs.Messages.{NamesKey, Shows}
+use Rattle.manifest_lints_findings.specs.Messages.{NamesKey, Shows, noted_texts, help_texts, said}
+use Rattle.manifest_lints_findings.specs.Texts.{Mentions}
 use Rattle.manifest_lints_findings.specs.NoTables.{is_no_table}
 use Rattle.manifest_lints_findings.specs.Shown.{IsMended, IsShownOn}
 use Rattle.manifest_lints_findings.specs.Spells.{SpellsNothing, IsRead, entry_read}
 pub use Rattle.manifest_lints.specs.Rustcs.{IsRustcs, AllowsRustcs}
-use Rattle.manifest_lints.specs.declared.deciding.TheConstants.{MANY, LEVELS}
+use Rattle.manifest_lints.specs.declared.deciding.TheConstants.{LEVELS}
+use Rattle.manifest_lints.specs.declared.at_targets.TheConstants.{MANY}
 use Rattle.manifest_lints.specs.declared.earlier.TheConstants.{MOST}
 use Rattle.manifest_lints.specs.declared.earlier.Earlier.{Earlier}
 use Rattle.manifest_lints.specs.declared.earlier.Earlier.TheVariants.{Unlike}
-use Rattle.manifest_lints.specs.Truths.{IsNever, IsAlways, CanHold, CanFail, IsNowhere, IsEverywhere}
+use Rattle.manifest_lints.specs.AtTargets.{SettlesOn}
+use Rattle.manifest_lints.specs.Truths.{IsNever, IsAlways, CanHold, CanFail}
 use Rattle.manifest_lints.specs.Truths.{budget_of, NeedsMoreFor}
 use Rattle.manifest_lints.specs.Sames.{HasOne, HasSame, HasEquivalent, NamesRightly, named_place}
 use Rattle.manifest_lints.specs.Missed.{MissesNone}
@@ -45,9 +48,10 @@ use Rattle.manifest_lints.specs.Missed.{MissesNone}
 abbrev pub Settles : Bool → Bool → Type 0 → Type 0 → Type 0
 Settles is_open b Is IsNot = (IsTrue b → Is) × (b ≡ false → is_open ≡ false → IsNot)
 
--- it applies exactly if it is right, unless too many names are open
-abbrev pub SettlesFew : List (List ℕ) → Bool → Type 0 → Type 0
-SettlesFew open_keys b Is = (IsTrue b → Is) × (length open_keys ≤ MANY → Is → IsTrue b)
+-- it applies only if the condition never has this truth value on a known target, whichever facts with open names and
+-- keys are set; and if it does not apply, there is a reason
+abbrev pub SettlesPlaces : Bool → List DeclaredEntry → Condition → Bool → Type 0
+SettlesPlaces truth ds c b = SettlesOn truth (length (sorted_in ds c)) (open_in (sorted_in ds c)) c b
 
 -- the number of case splits for a condition
 abbrev pub budget_in : List DeclaredEntry → Condition → ℕ
@@ -74,13 +78,11 @@ Holds k ds es e c is_open code.Unsupported b = b ≡ has_sort sort.Unsupported (
 Holds k ds es e c is_open code.Never b = Settles is_open b (IsNever k c) (CanHold k c)
 Holds k ds es e c is_open code.UnknownTarget b = IsTrue b ↔ IsUnknownTarget c
 Holds k ds es e c is_open code.UnknownFact b = b ≡ has_sort sort.Mistaken (sorted_in ds c)
-Holds k ds es e c is_open code.Nowhere b =
-    SettlesFew (open_in (sorted_in ds c)) b (IsNowhere (open_in (sorted_in ds c)) c)
+Holds k ds es e c is_open code.Nowhere b = SettlesPlaces true ds c b
 Holds k ds es e c is_open code.Same b = IsTrue b ↔ HasSame es c
 Holds k ds es e c is_open code.Equivalent b = IsTrue b → HasEquivalent k es c
 Holds k ds es e c is_open code.Always b = Settles is_open b (IsAlways k c) (CanFail k c)
-Holds k ds es e c is_open code.Everywhere b =
-    SettlesFew (open_in (sorted_in ds c)) b (IsEverywhere (open_in (sorted_in ds c)) c)
+Holds k ds es e c is_open code.Everywhere b = SettlesPlaces false ds c b
 Holds k ds es e c is_open code.Custom b = b ≡ has_sort sort.Custom (sorted_in ds c)
 Holds k ds es e c is_open code.NotCanonical b = b ≡ not (bytes_eq (print_condition c) e.0)
 
@@ -141,11 +143,13 @@ pub record IsKnownOf (ds : List DeclaredEntry) (e : Entry) (key : KnownKey) : Ty
   pub known : IsKnown ds read key
 
 -- the diagnostic of a lint on a key has the level of the lint, and a message with the names and numbers of the key's
--- properties; it has the position of the key's error if the key is rejected; and it has a suggestion only if the lint
--- reports nothing on that
+-- properties; its notes have Cargo's warnings, and its helps the suggestion; it has the position of the key's error if
+-- the key is rejected; and it has a suggestion only if the lint reports nothing on that
 pub record IsDiagnosticOn (c : Code) (key : KnownKey) (f : Finding) : Type 0 where
   pub level : f.level ≡ finding_level c (length key.asked.items)
-  pub message : Shows c key f.suggestion (string_bytes f.message)
+  pub message : Shows c key (string_bytes f.message)
+  pub notes : Mentions (noted_texts c key) (said f.children.notes.items)
+  pub helps : Mentions (help_texts c key f.suggestion) (said f.children.helps.items)
   pub shown : IsShownOn c key f
   pub suggestion : IfSome f.suggestion (λ s. IsMended c (string_bytes s))
 

@@ -1,16 +1,11 @@
--- The definitions of conditions that are true never, always, nowhere and everywhere.
-use Rattle.std.specs.Prelude.{◌≡◌, ◌<◌, ℕ, ◌*◌, ◌/◌, max, Bool, true, false, cond, nat_le, List, [], ◌∷◌}
-use Rattle.std.specs.Prelude.{Option, Some}
+-- The definitions of conditions that are never true, and of those that always are.
+use Rattle.std.specs.Prelude.{ℕ, ◌*◌, ◌/◌, max, Bool, true, false, cond, nat_le, List, [], ◌∷◌}
 use Rattle.cargo_platform.specs.Trees.{Condition}
 use Rattle.cargo_platform.specs.Facts.{FactSet, IsTrueCondition}
-use Rattle.partial_facts.specs.Conditions.{kleene_condition}
 use Rattle.exact_answers.specs.declared.known.Known.{Known}
 use Rattle.exact_answers.specs.Possible.{IsAllowed}
 use Rattle.exact_answers.specs.Asking.{NeedsMore}
 use Rattle.exact_answers.specs.Targets.{ForEach, asked_trees}
-use Rattle.known_targets.specs.Open.{open_told}
-use Rattle.known_targets.specs.Table.{target_name, target_facts}
-use Rattle.known_targets.specs.declared.table.TheConstants.{COUNT}
 use Rattle.manifest_lints.specs.declared.deciding.TheConstants.{FEW, SPLITS}
 use Rattle.manifest_lints.specs.declared.deciding.Decided.{Decided}
 use Rattle.manifest_lints.specs.declared.deciding.Decided.TheVariants as decided
@@ -69,13 +64,3 @@ budget_of facts = cond (nat_le facts FEW) SPLITS (max (SPLITS * 64 / facts) 8)
 -- so many case splits are too few for the condition
 abbrev pub NeedsMoreFor : Known → Condition → ℕ → Type 0
 NeedsMoreFor k c budget = NeedsMore k (asked_trees (c ∷ [])) budget
-
--- its truth value on a known target, if that does not depend on the facts of open names and keys
-abbrev pub at_target : List (List ℕ) → Condition → ℕ → Option Bool
-at_target open_keys c k = kleene_condition (Some (target_name k)) (open_told (target_facts k) open_keys) c
-
-abbrev pub IsNowhere : List (List ℕ) → Condition → Type 0
-IsNowhere open_keys c = (k : ℕ) → k < COUNT → at_target open_keys c k ≡ Some false
-
-abbrev pub IsEverywhere : List (List ℕ) → Condition → Type 0
-IsEverywhere open_keys c = (k : ℕ) → k < COUNT → at_target open_keys c k ≡ Some true

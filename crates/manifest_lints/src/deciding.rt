@@ -1,31 +1,27 @@
-//! Decides whether a condition is never or always true, and whether it is true on no or every known target.
+//! Decides whether a condition is never or always true.
 
-ghost use Rattle.std.specs.Prelude.{◌≡◌, ◌≤◌, ◌↔◌, ◌⊎◌, ◌||◌, false, length, IsTrue, IfOk};
+ghost use Rattle.std.specs.Prelude.{◌≡◌, ◌⊎◌, ◌||◌, false, IsTrue, IfOk};
 ghost use Rattle.cargo_platform.specs.Trees.{condition_of};
 ghost use Rattle.cargo_platform.specs.Nesting.{IsNestedBeyond};
-ghost use Rattle.partial_facts.specs.Partly.{names_of};
 ghost use Rattle.manifest_lints.specs.Truths.{SaysNever, SaysAlways, SaysNeverIs, is_yes, is_unknown};
 ghost use Rattle.manifest_lints.specs.Truths.{budget_of, NeedsMoreFor};
-ghost use Rattle.manifest_lints.specs.Truths.{IsNever, IsAlways, CanHold, CanFail, IsNowhere, IsEverywhere};
+ghost use Rattle.manifest_lints.specs.Truths.{IsNever, IsAlways, CanHold, CanFail};
 
 use crate::shown_by_samples::is_shown;
 use cargo_platform::{Platform, nesting_beyond};
 use exact_answers::{CanSelect, Known, MustSelect, always_platform, can_hold_platform};
-use known_targets::{certainly_matching, possibly_matching};
 use std::alloc::{AllocError, Global};
 
 /// The maximum number of case splits in a search for a condition of at most `FEW` facts. With more facts it is lower.
 const SPLITS: u64 = 1024;
 
-const FEW: usize = 64;
+/// The maximum number of facts of a condition that is searched with the whole number of case splits, and on each known
+/// target.
+pub const FEW: usize = 64;
 
 /// The maximum number of group members, nested in one another and each followed by others, of a condition that is
 /// searched over sets of facts. The stack has no room for more.
 pub const LEVELS: usize = 20_000;
-
-/// The maximum number of open names and keys of a condition for which it is decided whether it is true on no or every
-/// known target.
-pub const MANY: usize = 4096;
 
 /// The answer to a question about a condition.
 #[derive(Clone, Copy, Debug, PartialEq, Eq, Drop)]
@@ -36,7 +32,7 @@ pub enum Decided {
 }
 
 /// Returns whether the answer is `Yes`.
-fn is_yes(decided: Decided) -> bool
+pub fn is_yes(decided: Decided) -> bool
     ensures { result ≡ is_yes decided }
 {
     match decided {
@@ -80,8 +76,8 @@ pub fn budget_for(facts: usize) -> u64
 }
 
 /// Decides whether a condition is true for no possible target. If that takes too many case splits, some sets of facts
-/// are tried.
-fn is_never<'a>(
+/// are tried. Fails if memory is refused.
+pub fn is_never<'a>(
     alloc: Global,
     platform: &'a Platform,
     known: &'a Known<'a>,
@@ -99,8 +95,8 @@ fn is_never<'a>(
 }
 
 /// Decides whether a condition is true for each possible target. If that takes too many case splits, some sets of facts
-/// are tried.
-fn is_always<'a>(
+/// are tried. Fails if memory is refused.
+pub fn is_always<'a>(
     alloc: Global,
     platform: &'a Platform,
     known: &'a Known<'a>,
@@ -149,47 +145,6 @@ fn settled<'a>(
     let never = is_never(alloc, platform, known, budget)?;
     let always = is_always(alloc, platform, known, budget)?;
     Ok((never, always))
-}
-
-/// Returns whether a condition is true on no known target, whichever facts with these names and keys are set.
-fn is_nowhere(alloc: Global, platform: &Platform, open_keys: &[&str]) -> Result<bool, AllocError>
-    ensures { IfOk result (λ b. IsTrue b ↔ IsNowhere (names_of open_keys.now) (condition_of platform.now)) }
-{
-    Ok(possibly_matching(alloc, platform, open_keys)?.is_empty())
-}
-
-/// Returns whether a condition is true on every known target, whichever facts with these names and keys are set.
-fn is_everywhere(alloc: Global, platform: &Platform, open_keys: &[&str]) -> Result<bool, AllocError>
-    ensures { IfOk result (λ b. IsTrue b ↔ IsEverywhere (names_of open_keys.now) (condition_of platform.now)) }
-{
-    Ok(
-        certainly_matching(alloc, platform, open_keys)?
-            .complement()
-            .is_empty(),
-    )
-}
-
-/// Returns whether a condition is true on no known target, and whether it is true on every known target, whichever
-/// facts with these names and keys are set. Both are `false` if there are more than `MANY` names and keys. Fails if
-/// memory is refused.
-pub fn places(
-    alloc: Global,
-    platform: &Platform,
-    open_keys: &[&str],
-) -> Result<(bool, bool), AllocError>
-    ensures nowhere { IfOk result (λ h. IsTrue h.0 → IsNowhere (names_of open_keys.now) (condition_of platform.now)) }
-    ensures everywhere { IfOk result
-        (λ h. IsTrue h.1 → IsEverywhere (names_of open_keys.now) (condition_of platform.now)) }
-    ensures all { length open_keys.now ≤ MANY → IfOk result
-        (λ h. (IsNowhere (names_of open_keys.now) (condition_of platform.now) → IsTrue h.0)
-        × (IsEverywhere (names_of open_keys.now) (condition_of platform.now) → IsTrue h.1)) }
-{
-    if open_keys.len() > MANY {
-        return Ok((false, false));
-    }
-    let nowhere = is_nowhere(alloc, platform, open_keys)?;
-    let everywhere = is_everywhere(alloc, platform, open_keys)?;
-    Ok((nowhere, everywhere))
 }
 
 /// Returns whether a condition is never true, whether it is always true, and whether one of these answers is not known.

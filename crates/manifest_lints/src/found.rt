@@ -14,13 +14,15 @@ ghost use Rattle.manifest_lints.specs.Earlier.{same_place, equivalent_place, is_
 ghost use Rattle.manifest_lints.specs.Truths.{budget_of};
 ghost use Rattle.manifest_lints.specs.Rustcs.{AllowsRustcs};
 ghost use Rattle.manifest_lints.specs.Classes.{AreClassed, TellsNoneEquivalent};
-ghost use Rattle.manifest_lints.specs.declared.deciding.TheConstants.{LEVELS, MANY};
+ghost use Rattle.manifest_lints.specs.declared.at_targets.TheConstants.{MANY};
+ghost use Rattle.manifest_lints.specs.declared.deciding.TheConstants.{LEVELS};
 ghost use Rattle.manifest_lints.specs.Founds.{found_codes, AnswersFor};
 ghost use Rattle.manifest_lints.specs.Missed.{AreCovered};
 ghost use Rattle.manifest_lints.specs.Reports.{IsFound, MayBeOpen, left_open};
 ghost use Rattle.manifest_lints.specs.Sames.{AreNoted, AreMembers};
 
-use crate::deciding::{MANY, asked, budget_for, either, may_ask, places};
+use crate::at_targets::{MANY, places};
+use crate::deciding::{asked, budget_for, either, may_ask};
 use crate::earlier::{Earlier, Keys};
 use cargo_platform::Platform;
 use exact_answers::Known;
@@ -116,7 +118,7 @@ fn answers_alone<'a>(
         es key.now.read.now.text.now (condition_of condition.now)) }
 {
     let open = open_names(alloc, &key.asked)?;
-    let (nowhere, everywhere) = places(alloc, condition, &open)?;
+    let (nowhere, everywhere) = places(alloc, condition, &open, key.asked.len())?;
     let budget = budget_for(key.asked.len());
     let may_ask = may_ask(key.levels, key.read.text);
     let (never, always, unknown) = asked(alloc, condition, asking.known, budget, may_ask)?;

@@ -1,6 +1,6 @@
 //! Laws over the definitions. The function does nothing: its contract is the laws.
 
-ghost use Rattle.manifest_lints.specs.Laws.{AreOneValued, AreMany, AreLevels, AreCompared};
+ghost use Rattle.manifest_lints.specs.Laws.{AreOneValued, AreMany, AreLevels, AreCompared, AreFewAt};
 
 /// The constants that the contract of `lint` cites have these values.
 pub fn constants()
@@ -8,4 +8,5 @@ pub fn constants()
     ensures many { AreMany }
     ensures levels { AreLevels }
     ensures compared { AreCompared }
+    ensures few_at { AreFewAt }
 {}

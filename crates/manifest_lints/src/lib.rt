@@ -1,6 +1,7 @@
 //! The lints for the keys of `target` in a manifest.
 #![tactic(auto)]
 
+mod at_targets;
 mod deciding;
 mod earlier;
 mod found;

@@ -1,16 +1,17 @@
 -- What a message mentions, and lists that are joined.
 use Rattle.std.proofs.Common.{◌≡◌, ◌∙◌, refl, sym, ap, subst, ℕ, List, [], ◌∷◌, ◌++◌, append_assoc, map, take, length}
-use Rattle.std.proofs.Common.{◌+◌, ◌<◌, ◌≤◌, get_or, arith}
-use Rattle.std.specs.Prelude.{codes}
+use Rattle.std.proofs.Common.{arith}
+use Rattle.std.specs.Prelude.{codes, String, string_bytes}
+use Rattle.std.specs.declared.alloc.Global.{Global}
 use Rattle.std.specs.Prelude.{flat_map}
 use Rattle.std.specs.List.{join_by}
-use Rattle.std.proofs.lemmas.List.{append-nil, take-map, length-map, take_more, take_all, map-append}
+use Rattle.std.proofs.lemmas.List.{append-nil, take-map, length-map}
 use Rattle.std.proofs.lemmas.List.Folds.{flat_map-map}
 use Rattle.known_targets.specs.declared.table.TheConstants.{RUSTC_VERSION}
 use Rattle.manifest_lints_standings.specs.declared.asked_facts.AskedFact.{AskedFact}
 use Rattle.manifest_lints_findings.specs.Chosen.{fact_text}
-use Rattle.manifest_lints_findings.specs.Messages.{listing, listing_of_version}
-use Rattle.manifest_lints_findings.specs.Texts.{StandsIn, Mentions, BeginsWith, FollowsIn, and_more, joined_first}
+use Rattle.manifest_lints_findings.specs.Messages.{listing, listing_of_version, said}
+use Rattle.manifest_lints_findings.specs.Texts.{StandsIn, Mentions, FollowsIn, and_more, joined_first}
 use Rattle.manifest_lints_findings.specs.Texts.{first_texts}
 use Rattle.manifest_lints_findings.specs.declared.wording.TheConstants.{TOLD}
 
@@ -50,9 +51,6 @@ mentions_one t = ([], record { words = []; are = sym (append-nil t) }, tt)
 
 pub mentions_is : (t m : List ℕ) → m ≡ t → Mentions (t ∷ []) m
 mentions_is t m is = ([], record { words = []; are = is ∙ sym (append-nil t) }, tt)
-
-pub mentions_first : (t m : List ℕ) → BeginsWith t m → Mentions (t ∷ []) m
-mentions_first t m h = (h.0, record { words = []; are = h.1 }, tt)
 
 module _ {X : Type 0} (text : X → List ℕ) (mark : List ℕ) where
   behind_marks : (xs : List X) → Mentions (map text xs) (flat_map (λ x. mark ++ text x) xs)
@@ -96,21 +94,6 @@ mentions_last ts m words n is h = subst (Mentions ts) (sym is) (mentions_behind 
 pub mentions_start : (ts : List (List ℕ)) (m n after : List ℕ) → m ≡ n ++ after → Mentions ts n → Mentions ts m
 mentions_start ts m n after is h = subst (Mentions ts) (sym is) (mentions_ahead ts n after h)
 
--- one that begins with one, and has another behind words, mentions what both do
-pub mentions_two : (ts us : List (List ℕ)) (m n words k after : List ℕ) → m ≡ n ++ (words ++ (k ++ after))
-    → Mentions ts n → Mentions us k → Mentions (ts ++ us) m
-mentions_two ts us m n words k after is h i =
-    subst (Mentions (ts ++ us)) (sym is)
-    (mentions_both ts us n (words ++ (k ++ after)) h
-    (mentions_behind us words (k ++ after) (mentions_ahead us k after i)))
-
-pub mentions_all : (ts us : List (List ℕ)) (m n words others k : List ℕ) → m ≡ n ++ (words ++ (others ++ k))
-    → Mentions ts n → Mentions us k → Mentions (ts ++ us) m
-mentions_all ts us m n words others k is h i =
-    subst (Mentions (ts ++ us)) (sym is)
-    (mentions_both ts us n (words ++ (others ++ k)) h
-    (mentions_behind us words (others ++ k) (mentions_behind us others k i)))
-
 -- one text, and what stands behind words
 pub mentions_behind_one : (t : List ℕ) (ts : List (List ℕ)) (m before words n : List ℕ)
     → m ≡ before ++ (t ++ (words ++ n)) → Mentions ts n → Mentions (t ∷ ts) m
@@ -122,33 +105,11 @@ pub mentions_follow : (ts us : List (List ℕ)) (m n k : List ℕ) → FollowsIn
 mentions_follow ts us m n k f h i =
     subst (Mentions (ts ++ us)) (sym f.1) (mentions_both ts us n (f.0 ++ k) h (mentions_behind us f.0 k i))
 
--- ---- lists that are told one by one
+-- ---- a text alone among notes or helps
 
--- one more stands behind a mark
-pub next_mentioned : {X : Type 0} (text : X → List ℕ) (items : List X) (i : ℕ) (x : X) (old mark said new : List ℕ)
-    → i < length items → get_or items i x ≡ x → Mentions (map text (take i items)) old → BeginsWith (text x) said
-    → new ≡ (old ++ mark) ++ said → Mentions (map text (take (i + 1) items)) new
-next_mentioned text items i x old mark said new within at h begins is =
-    let ts = map text (take i items) in
-    let more : map text (take (i + 1) items) ≡ ts ++ text x ∷ [] =
-    ap (map text) (take_more items i x within ∙ ap (λ y. take i items ++ y ∷ []) at)
-    ∙ map-append text (take i items) (x ∷ []) in
-    subst (λ us. Mentions us new) (sym more)
-    (subst (Mentions (ts ++ text x ∷ [])) (sym is)
-    (mentions_both ts (text x ∷ []) (old ++ mark) said (mentions_ahead ts old mark h)
-    (mentions_first (text x) said begins)))
-
--- all are told, and how many more there are
-pub all_mentioned : {X : Type 0} (text : X → List ℕ) (items xs : List X) (i : ℕ) (old more new : List ℕ)
-    → length items ≤ i → items ≡ take TOLD xs → Mentions (map text (take i items)) old → more ≡ and_more (length xs)
-    → new ≡ old ++ more → Mentions (first_texts text xs) new
-all_mentioned text items xs i old more new done items_are h more_is is =
-    let ts = map text (take TOLD xs) in
-    let told : Mentions ts old =
-    subst (λ ys. Mentions (map text ys) old) (take_all i items done ∙ items_are) h in
-    subst (Mentions (ts ++ and_more (length xs) ∷ [])) (sym (is ∙ ap (λ t. old ++ t) more_is))
-    (mentions_both ts (and_more (length xs) ∷ []) old (and_more (length xs)) told
-    (mentions_one (and_more (length xs))))
+pub one_said : (ts : List (List ℕ)) (all : List (String Global)) (t : String Global) → all ≡ t ∷ []
+    → Mentions ts (string_bytes t) → Mentions ts (said all)
+one_said ts all t is h = subst (λ us. Mentions ts (said us)) (sym is) (mentions_ahead ts (string_bytes t) [] h)
 
 -- ---- lists behind rustc's version
 

@@ -1,5 +1,6 @@
--- The names and numbers that a message contains, by its lint. The words between them are free.
+-- The names and numbers that a message, its notes and its helps contain, by the lint. The words between them are free.
 use Rattle.std.specs.Prelude.{ℕ, Bool, false, not, ◌&&◌, List, [], ◌∷◌, ◌++◌, codes, cond, nat_eq, take, string_bytes}
+use Rattle.std.specs.Prelude.{flat_map}
 use Rattle.std.specs.Prelude.{String}
 use Rattle.std.specs.Prelude.{Option, Some, None}
 use Rattle.std.specs.List.{join_by, starts_with, ends_with}
@@ -66,11 +67,17 @@ fault_shown key (spelled.ByCargo m) = []
 abbrev pub cargo_words : Marked → List ℕ
 cargo_words m = shown_whole (join_by (λ s. string_bytes s) (codes " ") (take TOLD m.warnings.items) ++ and_more m.count)
 
--- Cargo's warnings on it, or the names that lose their raw mark
+-- the names that lose their raw mark, unless only Cargo accepts the key
 abbrev pub read_otherwise : Spelled → List AskedFact → List (List ℕ)
-read_otherwise (spelled.ByCargo m) fs = cargo_words m ∷ []
+read_otherwise (spelled.ByCargo m) fs = []
 read_otherwise (spelled.Condition p) fs = listing (chosen choice.Literal fs)
 read_otherwise (spelled.Refused e) fs = listing (chosen choice.Literal fs)
+
+-- Cargo's warnings on it, if only Cargo accepts the key
+abbrev pub cargo_noted : Spelled → List (List ℕ)
+cargo_noted (spelled.ByCargo m) = cargo_words m ∷ []
+cargo_noted (spelled.Condition p) = []
+cargo_noted (spelled.Refused e) = []
 
 -- Cargo's warnings on names and pairs that do not select dependencies
 abbrev pub unsupported_in : List AskedFact → List ℕ
@@ -81,20 +88,35 @@ abbrev pub meant_shown : Option (String Global) → List (List ℕ)
 meant_shown (Some s) = quoted_text (string_bytes s) ∷ []
 meant_shown None = []
 
--- the texts in the message of a diagnostic of this lint on a key, which `meant` can replace
-abbrev pub shown_texts : Code → KnownKey → Option (String Global) → List (List ℕ)
-shown_texts code.Refused k meant = fault_shown k.read.now.text.now k.read.now.spelled ++ meant_shown meant
-shown_texts code.NoTable k meant = first_texts (λ s. string_bytes s) k.no_tables.items
-shown_texts code.ReadOtherwise k meant = read_otherwise k.read.now.spelled k.asked.items
-shown_texts code.Unsupported k meant = unsupported_in (chosen (choice.OfSort sort.Unsupported) k.asked.items) ∷ []
-shown_texts code.UnknownTarget k meant = RUSTC_VERSION.now ∷ meant_shown meant
-shown_texts code.UnknownFact k meant = mistakes_in (chosen (choice.OfSort sort.Mistaken) k.asked.items)
-shown_texts code.Nowhere k meant = RUSTC_VERSION.now ∷ []
-shown_texts code.Everywhere k meant = RUSTC_VERSION.now ∷ []
-shown_texts code.Custom k meant = custom_in (chosen (choice.OfSort sort.Custom) k.asked.items)
-shown_texts _ k meant = []
+-- the texts in the message of a diagnostic of this lint on a key
+abbrev pub shown_texts : Code → KnownKey → List (List ℕ)
+shown_texts code.Refused k = fault_shown k.read.now.text.now k.read.now.spelled
+shown_texts code.NoTable k = first_texts (λ s. string_bytes s) k.no_tables.items
+shown_texts code.ReadOtherwise k = read_otherwise k.read.now.spelled k.asked.items
+shown_texts code.Unsupported k = listing (chosen (choice.OfSort sort.Unsupported) k.asked.items)
+shown_texts code.UnknownTarget k = RUSTC_VERSION.now ∷ []
+shown_texts code.UnknownFact k = mistakes_in (chosen (choice.OfSort sort.Mistaken) k.asked.items)
+shown_texts code.Nowhere k = RUSTC_VERSION.now ∷ []
+shown_texts code.Everywhere k = RUSTC_VERSION.now ∷ []
+shown_texts code.Custom k = custom_in (chosen (choice.OfSort sort.Custom) k.asked.items)
+shown_texts _ k = []
 
--- the message contains these texts in this order; for a key that is not canonical, it ends with the canonical form
-abbrev pub Shows : Code → KnownKey → Option (String Global) → List ℕ → Type 0
-Shows code.NotCanonical k meant message = EndsWith (quoted_text (string_bytes k.canonical)) message
-Shows c k meant message = Mentions (shown_texts c k meant) message
+-- the message contains these texts in this order
+abbrev pub Shows : Code → KnownKey → List ℕ → Type 0
+Shows c k message = Mentions (shown_texts c k) message
+
+-- ---- the notes and helps beside the message, each one after the other
+
+abbrev pub said : List (String Global) → List ℕ
+said ts = flat_map (λ t. string_bytes t) ts
+
+-- the texts in the notes: Cargo's warnings
+abbrev pub noted_texts : Code → KnownKey → List (List ℕ)
+noted_texts code.ReadOtherwise k = cargo_noted k.read.now.spelled
+noted_texts code.Unsupported k = unsupported_in (chosen (choice.OfSort sort.Unsupported) k.asked.items) ∷ []
+noted_texts _ k = []
+
+-- the texts in the helps: the canonical form of a key that is not in it, and else what can replace the key
+abbrev pub help_texts : Code → KnownKey → Option (String Global) → List (List ℕ)
+help_texts code.NotCanonical k meant = quoted_text (string_bytes k.canonical) ∷ []
+help_texts c k meant = meant_shown meant

@@ -18,10 +18,7 @@ shown_cut text = shown_line (chars text) 0 0
 abbrev pub quoted_text : List ℕ → List ℕ
 quoted_text text = codes "`" ++ shown_cut text ++ codes "`"
 
--- the message begins with the text, or ends with it
-abbrev pub BeginsWith : List ℕ → List ℕ → Type 0
-BeginsWith text message = (words : List ℕ) × (message ≡ text ++ words)
-
+-- the message ends with the text
 abbrev pub EndsWith : List ℕ → List ℕ → Type 0
 EndsWith text message = (words : List ℕ) × (message ≡ words ++ text)
 

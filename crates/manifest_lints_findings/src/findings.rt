@@ -4,6 +4,7 @@ ghost use Rattle.std.specs.Prelude.{◌≡◌, IfOk, None};
 ghost use Rattle.manifest_lints_findings.specs.Marks.{mark};
 
 use crate::codes::{Code, Level};
+use crate::notes_and_helps::Children;
 use crate::pointing::Pointed;
 use crate::readings::ReadKey;
 use std::alloc::{AllocError, Global};
@@ -18,8 +19,10 @@ pub struct Finding {
     pub code: Code,
     /// The index of the key among those of the report, or `None` for `target` itself.
     pub key: Option<usize>,
-    /// The message, without the snippet. It has one line, and no hidden characters.
+    /// What is wrong, in a phrase. It has one line, and no hidden characters.
     pub message: String,
+    /// The notes and helps.
+    pub children: Children,
     /// A text that can replace the whole key.
     pub suggestion: Option<String>,
     /// The span of the error in a rejected key, in bytes.
@@ -52,6 +55,7 @@ pub fn target_is_no_table(alloc: Global) -> Result<Finding, AllocError>
         code: Code::NoTable,
         key: None,
         message: String::from_str(alloc, "`target` is no table")?,
+        children: Children::none(alloc),
         suggestion: None,
         span: None,
         snippet: None,

@@ -3,13 +3,15 @@
 ghost use Rattle.std.specs.Prelude.{◌≡◌, IfOk, IfSome, Some, length, string_bytes};
 ghost use Rattle.manifest_lints_findings.specs.Codes.{finding_level};
 ghost use Rattle.manifest_lints_findings.specs.Marks.{mark};
-ghost use Rattle.manifest_lints_findings.specs.Messages.{NamesKey, Shows};
+ghost use Rattle.manifest_lints_findings.specs.Messages.{NamesKey, Shows, noted_texts, help_texts, said};
+ghost use Rattle.manifest_lints_findings.specs.Texts.{Mentions};
 ghost use Rattle.manifest_lints_findings.specs.Shown.{IsShownOn, IsMended};
 
 use crate::codes::{Code, Level};
 use crate::findings::Finding;
 use crate::known_keys::KnownKey;
 use crate::messages::message_of;
+use crate::notes_and_helps::children_of;
 use crate::pointing::pointed_by;
 use crate::readings::Spelled;
 use crate::suggestions::{Words, suggestion_of};
@@ -50,17 +52,22 @@ pub fn finding_on(
     ensures mark { IfOk result (λ f. mark f ≡ (Some key.now.place, code)) }
     ensures level { IfOk result (λ f. f.level ≡ finding_level code (length key.now.asked.items)) }
     ensures named { IfOk result (λ f. NamesKey code other.now (string_bytes f.message)) }
-    ensures tells { IfOk result (λ f. Shows code key.now f.suggestion (string_bytes f.message)) }
+    ensures tells { IfOk result (λ f. Shows code key.now (string_bytes f.message)) }
+    ensures notes { IfOk result (λ f. Mentions (noted_texts code key.now) (said f.children.notes.items)) }
+    ensures helps { IfOk result
+        (λ f. Mentions (help_texts code key.now f.suggestion) (said f.children.helps.items)) }
     ensures shown { IfOk result (λ f. IsShownOn code key.now f) }
     ensures suggestion { IfOk result (λ f. IfSome f.suggestion (λ s. IsMended code (string_bytes s))) }
 {
     let suggestion = suggestion_of(alloc, words, key, code)?;
-    let message = message_of(alloc, words, key, other, &suggestion, code)?;
+    let message = message_of(alloc, key, other, code)?;
+    let children = children_of(alloc, words, key, &suggestion, code)?;
     let finding = Finding {
         level: level_of(code, key.asked.len()),
         code,
         key: Some(key.place),
         message,
+        children,
         suggestion,
         span: None,
         snippet: None,

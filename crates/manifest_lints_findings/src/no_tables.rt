@@ -47,12 +47,27 @@ fn other_member(alloc: Global, name: &str) -> Result<String, AllocError> {
     if is_configuration(name) {
         return format!(in alloc; "{shown} belongs into .cargo/config.toml");
     }
-    match meant_table(name) {
-        Some(table) => format!(in alloc;
-            "{shown} is no table of dependencies (did you mean `{table}`?)"
-        ),
-        None => format!(in alloc; "{shown} is no table of dependencies"),
+    format!(in alloc; "{shown} is no table of dependencies")
+}
+
+/// Returns for each member of a key's value that is not read which dependency table may be meant, where that is known.
+/// Fails if memory is refused.
+pub fn meant_tables(alloc: Global, value: &Value) -> Result<Vec<String>, AllocError> {
+    let mut helps = Vec::new(alloc);
+    let Some(table) = value.as_table() else {
+        return Ok(helps);
+    };
+    for (name, _) in table.iter() {
+        let name = name.as_str();
+        if is_table_name(name) || is_configuration(name) {
+            continue;
+        }
+        if let Some(meant) = meant_table(name) {
+            let shown = quoted(alloc, name)?;
+            helps.push(format!(in alloc; "did you mean `{meant}` in place of {shown}?")?)?;
+        }
     }
+    Ok(helps)
 }
 
 /// Returns the message for a member of this name, which is not a table.

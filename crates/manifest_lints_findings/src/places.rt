@@ -3,6 +3,7 @@
 use crate::codes::Level;
 use crate::lints::Lint;
 use crate::meant::near;
+use crate::notes_and_helps::Children;
 use cargo_platform::shown_start;
 use known_targets::KnownTarget;
 use manifests::places::path_of;
@@ -33,7 +34,10 @@ pub struct WrongPlace {
     pub key: Option<String>,
     /// What is at fault.
     pub site: Site,
+    /// What is wrong, in a phrase.
     pub message: String,
+    /// The notes and helps.
+    pub children: Children,
     /// A text that can replace the whole key, or the name at fault if there is no key.
     pub suggestion: Option<&'static str>,
 }
@@ -64,14 +68,15 @@ fn has_keys(value: &Value) -> bool {
 fn unread(alloc: Global, name: &str, path: String, meant: &str) -> Result<WrongPlace, AllocError> {
     let name = shown_start(alloc, name)?;
     let meant = shown_start(alloc, meant)?;
-    let meant = meant.as_str();
+    let help = format!(in alloc; "did you mean `{meant}`?")?;
     Ok(WrongPlace {
         lint: Lint::Misplaced,
         level: Level::Warning,
         subject: name,
         key: None,
         site: Site::Named(path),
-        message: format!(in alloc; "Cargo does not read this table; did you mean `{meant}`?")?,
+        message: String::from_str(alloc, "Cargo does not read this table")?,
+        children: Children::of_help(alloc, help)?,
         suggestion: None,
     })
 }
@@ -150,15 +155,15 @@ pub fn add_at_top(
 fn among_packages(alloc: Global, name: &str, key: &str) -> Result<WrongPlace, AllocError> {
     let path = path_of(alloc, &[name, key])?;
     let key = shown_start(alloc, key)?;
+    let help = format!(in alloc; "did you mean `target.'{key}'.{name}`?")?;
     Ok(WrongPlace {
         lint: Lint::Misplaced,
         level: Level::Error,
         subject: format!(in alloc; "{name}.'{key}'")?,
         key: None,
         site: Site::Named(path),
-        message: format!(in alloc;
-            "Cargo rejects this package name; did you mean `target.'{key}'.{name}`?"
-        )?,
+        message: String::from_str(alloc, "Cargo rejects this package name")?,
+        children: Children::of_help(alloc, help)?,
         suggestion: None,
     })
 }
@@ -184,6 +189,7 @@ fn add_as_package(
     for (key, _) in package.iter() {
         if is_key(key.as_str()) {
             let key = shown_start(alloc, key.as_str())?;
+            let help = format!(in alloc; "did you mean `target.'{key}'.{name}`?")?;
             found.push(WrongPlace {
                 lint: Lint::Misplaced,
                 level: if has_source(package) {
@@ -194,9 +200,8 @@ fn add_as_package(
                 subject: format!(in alloc; "{name}.target")?,
                 key: None,
                 site: Site::Named(path_of(alloc, &[name, "target"])?),
-                message: format!(in alloc;
-                    "Cargo takes `target` for the name of a package; did you mean `target.'{key}'.{name}`?"
-                )?,
+                message: String::from_str(alloc, "Cargo takes `target` for the name of a package")?,
+                children: Children::of_help(alloc, help)?,
                 suggestion: None,
             })?;
             return Ok(());
@@ -238,12 +243,22 @@ fn is_of_2024(manifest: &Table) -> bool {
     }
 }
 
-/// Returns the message for a name with underscores. `other` is the name to use in place of it.
-fn underscored_message(alloc: Global, other: &str, is_refused: bool) -> Result<String, AllocError> {
+/// Returns the message for a name with underscores.
+fn underscored_message(is_refused: bool) -> &'static str {
     if is_refused {
-        format!(in alloc; "Cargo refuses this name in the edition of 2024; `{other}` is the name")
+        "Cargo rejects this name in edition 2024"
     } else {
-        format!(in alloc; "Cargo warns of this name; `{other}` is the name")
+        "Cargo warns of this name"
+    }
+}
+
+/// Returns what to do about a name with underscores. `other` is the name to use in place of it, which another table has
+/// if `is_taken`.
+fn underscored_help(alloc: Global, other: &str, is_taken: bool) -> Result<String, AllocError> {
+    if is_taken {
+        format!(in alloc; "move the dependencies into the table `{other}`")
+    } else {
+        format!(in alloc; "write `{other}`")
     }
 }
 
@@ -270,14 +285,17 @@ fn site_of_table(alloc: Global, key: Option<&str>, name: &str) -> Result<Site, A
     }
 }
 
-/// Returns the diagnostic on a table whose name has underscores. `other` is the name to use in place of it.
+/// Returns the diagnostic on a table whose name has underscores, the first of these two names. The second one is to be
+/// used in place of it, unless another table has that name, which `is_taken` says.
 fn underscored(
     alloc: Global,
     key: Option<&str>,
-    name: &str,
-    other: &'static str,
+    names: (&str, &'static str),
+    is_taken: bool,
     is_refused: bool,
 ) -> Result<WrongPlace, AllocError> {
+    let (name, other) = names;
+    let help = underscored_help(alloc, other, is_taken)?;
     Ok(WrongPlace {
         lint: Lint::Underscored,
         level: if is_refused {
@@ -288,8 +306,9 @@ fn underscored(
         subject: shown_table(alloc, key, name)?,
         key: None,
         site: site_of_table(alloc, key, name)?,
-        message: underscored_message(alloc, other, is_refused)?,
-        suggestion: Some(other),
+        message: String::from_str(alloc, underscored_message(is_refused))?,
+        children: Children::of_help(alloc, help)?,
+        suggestion: if is_taken { None } else { Some(other) },
     })
 }
 
@@ -304,12 +323,8 @@ fn add_underscored(
 ) -> Result<(), AllocError> {
     for (name, other) in UNDERSCORES {
         if table.get(name).is_some() {
-            let mut wrong = underscored(alloc, key, name, other, is_refused)?;
-            // A table of both names would be two tables of one name.
-            if table.get(other).is_some() {
-                wrong.suggestion = None;
-            }
-            found.push(wrong)?;
+            let is_taken = table.get(other).is_some();
+            found.push(underscored(alloc, key, (name, other), is_taken, is_refused)?)?;
         }
     }
     Ok(())

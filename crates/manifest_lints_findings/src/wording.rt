@@ -4,8 +4,7 @@ ghost use Rattle.std.specs.Prelude.{◌≡◌, ◌++◌, IfOk, codes, length, st
 ghost use Rattle.std.specs.List.{join_by};
 ghost use Rattle.cargo_platform.specs.Trees.{value_of};
 ghost use Rattle.manifest_lints_findings.specs.Chosen.{fact_text, quoted_value};
-ghost use Rattle.manifest_lints_findings.specs.Messages.{meant_shown};
-ghost use Rattle.manifest_lints_findings.specs.Texts.{quoted_text, and_more, joined_first, FollowsIn, Mentions};
+ghost use Rattle.manifest_lints_findings.specs.Texts.{quoted_text, and_more, joined_first, FollowsIn};
 ghost use Rattle.manifest_lints_findings.specs.declared.wording.TheConstants.{TOLD};
 
 use cargo_platform::{Cfg, shown_start};
@@ -14,9 +13,6 @@ use std::alloc::{AllocError, Global};
 
 /// The maximum number of items of a list that are printed.
 pub const TOLD: usize = 3;
-
-/// The end of messages about what no known target has.
-pub const OWN: &str = "; a custom target specification may have it";
 
 /// Returns the text in backquotes, escaped and shortened. Fails if memory is refused.
 pub fn quoted(alloc: Global, text: &str) -> Result<String, AllocError>
@@ -110,17 +106,4 @@ pub fn both(alloc: Global, first: String, second: String) -> Result<String, Allo
         return Ok(first);
     }
     format!(in alloc; "{first}; {second}")
-}
-
-/// Returns the end of a message that says what may be meant. Fails if memory is refused.
-pub fn perhaps(alloc: Global, meant: &Option<String>) -> Result<String, AllocError>
-    ensures { IfOk result (λ s. Mentions (meant_shown meant.now) (string_bytes s)) }
-{
-    match meant {
-        Some(text) => {
-            let text = quoted(alloc, text.as_str())?;
-            format!(in alloc; "; did you mean {text}?")
-        }
-        None => Ok(String::new(alloc)),
-    }
 }

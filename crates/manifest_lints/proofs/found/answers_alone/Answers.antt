@@ -1,13 +1,15 @@
-use Rattle.std.proofs.Common.{rules, ◌≡◌, ◌∙◌, ◌≤◌, ◌<◌, sym, ap, subst, length, List, ℕ, inl, inr}
+use Rattle.std.proofs.Common.{rules, ◌≡◌, ◌∙◌, ◌<◌, sym, ap, subst, length, List, ℕ, true, false, inl, inr}
 use Rattle.std.specs.Borrow.{Bor}
 use Rattle.std.proofs.lemmas.List.{length-map}
 use Rattle.cargo_platform.specs.Trees.{condition_of}
 use Rattle.partial_facts.specs.Partly.{names_of}
+use Rattle.manifest_lints_standings.specs.declared.asked_facts.AskedFact.{AskedFact}
 use Rattle.manifests.specs.Declarations.{declarations_of}
 use Rattle.manifest_lints_standings.specs.Standings.{open_in, sorted_by, sorted_of, sorted_in}
 use Rattle.manifest_lints_findings.specs.Known.{sorted_of_spelled}
-use Rattle.manifest_lints.specs.declared.deciding.TheConstants.{MANY}
-use Rattle.manifest_lints.specs.Truths.{IsNowhere, IsEverywhere, NeedsMoreFor, budget_of}
+use Rattle.manifest_lints.specs.declared.at_targets.TheConstants.{MANY}
+use Rattle.manifest_lints.specs.Truths.{NeedsMoreFor, budget_of}
+use Rattle.manifest_lints.specs.AtTargets.{SettlesOn}
 use Rattle.manifest_lints.specs.Reports.{too_deep, many_open, few_splits}
 use Rattle.manifest_lints.proofs.Founds.{left_false, right_or, one_or}
 use Rattle.manifest_lints.proofs.found.answers_alone.Goals as goal
@@ -15,6 +17,9 @@ use Rattle.manifest_lints.proofs.found.answers_alone.Goals as goal
 -- as many names and keys are open as stand in a slice of them
 as_many : (ts : List (Bor (List ℕ))) (ns : List (List ℕ)) → names_of ts ≡ ns → length ns ≡ length ts
 as_many ts ns is = sym (ap length is) ∙ length-map ts (λ t. t.now)
+
+counted : (n : ℕ) (fs : List AskedFact) → n ≡ length fs → n ≡ length (sorted_by fs)
+counted n fs is = is ∙ sym (length-map fs sorted_of)
 
 pub returns-clause-alone : goal.returns-clause-alone
 returns-clause-alone c = λ known is.
@@ -29,19 +34,18 @@ returns-clause-alone c = λ known is.
     ap names_of c.deref-2.ensures.value ∙ c.in_ok-open.ensures ∙ sorted in
     let names_too : names_of c.deref-3.result.now ≡ open_in (sorted_in ds p) =
     ap names_of c.deref-3.ensures.value ∙ c.in_ok-open.ensures ∙ sorted in
-    let few = λ (is : length (open_in (sorted_in ds p)) ≤ MANY).
-    subst (λ n. n ≤ MANY) (as_many open_keys (open_in (sorted_in ds p)) names) is in
+    let facts : c.len.result ≡ length (sorted_in ds p) =
+    counted c.len.result c.args.key.now.asked.items (search rules) ∙ ap length
+    (known.asked ∙ ap (sorted_of_spelled ds) is) in
     record {
       never = (asked.never, λ no settled. asked.can_hold no (left_false _ _ (sym c.either.ensures ∙ settled)));
       always = (asked.always, λ no settled. asked.can_fail no (left_false _ _ (sym c.either.ensures ∙ settled)));
-      nowhere = (
-        λ b. subst (λ ns. IsNowhere ns p) names (places.nowhere b),
-        λ is at. (places.all (few is)).0 (subst (λ ns. IsNowhere ns p) (sym names) at),
-      );
-      everywhere = (
-        λ b. subst (λ ns. IsEverywhere ns p) names (places.everywhere b),
-        λ is at. (places.all (few is)).1 (subst (λ ns. IsEverywhere ns p) (sym names) at),
-      );
+      nowhere =
+          subst (λ n. SettlesOn true n (open_in (sorted_in ds p)) p c.in_ok-nowhere.nowhere) facts
+          (subst (λ ns. SettlesOn true c.len.result ns p c.in_ok-nowhere.nowhere) names places.nowhere);
+      everywhere =
+          subst (λ n. SettlesOn false n (open_in (sorted_in ds p)) p c.in_ok-nowhere.everywhere) facts
+          (subst (λ ns. SettlesOn false c.len.result ns p c.in_ok-nowhere.everywhere) names places.everywhere);
       many = λ is. c.either.ensures
           ∙ right_or _ _ (c.are_many.ensures.1
           (subst (λ n. MANY < n) (as_many c.deref-3.result.now (open_in (sorted_in ds p)) names_too) is));
@@ -58,7 +62,7 @@ returns-clause-left_open c = λ known is es holds.
     ∙ ap (λ fs. open_in (sorted_by fs)) c.deref.ensures.value ∙ ap open_in asked_is in
     let long : length c.args.key.now.asked.items ≡ length (sorted_in ds p) =
     sym (length-map c.args.key.now.asked.items sorted_of) ∙ ap length asked_is in
-    let counted : c.len.result ≡ length c.args.key.now.asked.items = search rules in
+    let counted : c.len-2.result ≡ length c.args.key.now.asked.items = search rules in
     elim (one_or _ _ (sym c.either.ensures ∙ holds)) [
       | inl unknown ↦
           elim (c.in_ok-never.ensures.unknown unknown) [

@@ -4,7 +4,7 @@ use Rattle.std.proofs.lemmas.Result.{IfOk-weaker}
 use Rattle.known_targets.specs.declared.table.TheConstants.{RUSTC_VERSION}
 use Rattle.manifest_lints_findings.specs.Messages.{listing, listing_of_version}
 use Rattle.manifest_lints_findings.specs.Texts.{Mentions}
-use Rattle.manifest_lints_findings.proofs.Mentions.{of_version, none_of_version, mentions_behind_one}
+use Rattle.manifest_lints_findings.proofs.Mentions.{of_version, none_of_version, mentions_behind_one, listed_shown}
 use Rattle.manifest_lints_findings.proofs.messages.features_told.Goals as goal
 
 pub returns-then-is_empty : goal.returns-then-is_empty
@@ -19,5 +19,5 @@ returns c =
     (λ s is. of_version fs (string_bytes s)
     (mentions_behind_one RUSTC_VERSION.now (listing fs) (string_bytes s)
     (codes "no architecture that rustc ") (codes " knows has ") _ is
-    c.in_ok-listed.ensures))
+    (listed_shown fs _ c.in_ok-names.ensures)))
     c.format.ensures.ok

@@ -1,7 +1,7 @@
 use Rattle.std.proofs.Common.{◌≡◌, ◌++◌, false, drop}
 use Rattle.cargo_platform.specs.Errors.{texts}
 use Rattle.manifest_lints_findings.specs.Chosen.{warnings_on}
-use Rattle.manifest_lints_findings.proofs.messages.warnings_on.Given as goal
+use Rattle.manifest_lints_findings.proofs.notes_and_helps.warnings_on.Given as goal
 
 -- what was said, and is said of what is left
 abbrev pub invariant-facts : goal.invariant-facts

@@ -4,8 +4,8 @@ use Rattle.std.proofs.lemmas.Result.{IfOk-weaker}
 use Rattle.known_targets.specs.declared.table.TheConstants.{RUSTC_VERSION}
 use Rattle.manifest_lints_findings.specs.Messages.{listing, listing_of_version}
 use Rattle.manifest_lints_findings.specs.Texts.{Mentions}
-use Rattle.manifest_lints_findings.proofs.Mentions.{of_version, none_of_version, mentions_two}
-use Rattle.manifest_lints_findings.proofs.messages.facts_told.Goals as goal
+use Rattle.manifest_lints_findings.proofs.Mentions.{of_version, none_of_version, mentions_follow, listed_shown}
+use Rattle.manifest_lints_findings.proofs.messages.lacking_told.Goals as goal
 
 pub returns-then-is_empty : goal.returns-then-is_empty
 returns-then-is_empty c =
@@ -17,7 +17,7 @@ returns c =
     let fs = c.args.facts.now in
     IfOk-weaker c.format.result _ (λ s. Mentions (listing_of_version fs) (string_bytes s))
     (λ s is. of_version fs (string_bytes s)
-    (mentions_two (RUSTC_VERSION.now ∷ []) (listing fs) (string_bytes s) _ (codes " has ") _ _ is
+    (mentions_follow (RUSTC_VERSION.now ∷ []) (listing fs) (string_bytes s) _ _ (codes " has ", is)
     c.in_ok-unknown.ensures
-    c.in_ok-listed.ensures))
+    (listed_shown fs _ c.in_ok-names.ensures)))
     c.format.ensures.ok

@@ -7,7 +7,7 @@ use Rattle.manifest_lints_findings.specs.Messages.{cargo_words}
 use Rattle.manifest_lints_findings.specs.Texts.{shown_whole, Mentions, and_more}
 use Rattle.manifest_lints_findings.specs.declared.wording.TheConstants.{TOLD}
 use Rattle.manifest_lints_findings.proofs.Mentions.{mentions_last, mentions_is}
-use Rattle.manifest_lints_findings.proofs.messages.by_cargo_message.Goals as goal
+use Rattle.manifest_lints_findings.proofs.notes_and_helps.by_cargo_note.Goals as goal
 
 pub returns : goal.returns
 returns c =
@@ -17,5 +17,5 @@ returns c =
     let shown = c.in_ok-text.ensures
     ∙ ap shown_whole (c.as_str.ensures.value ∙ c.in_ok-warnings.ensures ∙ ap joined c.deref.ensures.value) in
     IfOk-weaker c.format.result _ (λ s. Mentions (words ∷ []) (string_bytes s))
-    (λ s is. mentions_last (words ∷ []) (string_bytes s) (codes "Cargo accepts the key with a warning: ") _ is
+    (λ s is. mentions_last (words ∷ []) (string_bytes s) (codes "Cargo warns: ") _ is
     (mentions_is words _ shown)) c.format.ensures.ok
