@@ -206,14 +206,14 @@ impl<'a> Telling<'a> {
         if let Some(fixing) = asked.fixing {
             self.fix_root(rt, root, is_whole, fixing)?;
         }
+        let path = shown_text(alloc, root.file.as_str())?;
+        let places = places_at(rt, &mut self.documents, root.file.as_str())?;
+        let found = found_in_root(alloc, root, &places, is_whole)?;
         let rules = Rules {
             of_workspace: &root.settings.rules,
             of_package: &[],
             of_command: &asked.rules,
         };
-        let path = shown_text(alloc, root.file.as_str())?;
-        let places = places_at(rt, &mut self.documents, root.file.as_str())?;
-        let found = found_in_root(alloc, root, &places, is_whole)?;
         let source = Source {
             path: path.as_str(),
             text: places.text.as_str(),
