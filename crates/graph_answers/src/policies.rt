@@ -2,11 +2,11 @@
 
 use crate::asked::{Requested, Words};
 use cargo_platform::{shown_start, shown_text};
+use diagnostics::Weight;
 use key_answers::answer::Refusal;
 use known_targets::{KnownTarget, RUSTC_VERSION};
 use licence_audits::PackageSpec;
 use licence_policies::{GraphTable, LicenceTable, Policy, PolicySource};
-use lint_reports::Weight;
 use std::alloc::{AllocError, Global};
 use std::mem;
 

@@ -4,11 +4,11 @@ use crate::graph_table::read_graph;
 use crate::keys::TableKind;
 use crate::licence_table::read_licences;
 use crate::reader::Reader;
-use input_limits::without_mark;
-use licence_audits::{Exception, PackageSpec};
-use lint_reports::{
+use diagnostics::{
     Diagnostic, Reported, Weight, diagnostic_of_failure, diagnostic_of_syntax, push_rendered,
 };
+use input_limits::without_mark;
+use licence_audits::{Exception, PackageSpec};
 use manifests::places::Location;
 use manifests::reading::{ManifestText, ReadError};
 use spdx_expressions::Licence;

@@ -3,7 +3,7 @@
 use crate::keys::{TableKind, Treatment};
 use crate::policy::UnusedLevel;
 use cargo_platform::shown_start;
-use lint_reports::{Diagnostic, Weight, diagnostic_of_failure};
+use diagnostics::{Diagnostic, Weight, diagnostic_of_failure};
 use manifest_lints_findings::near;
 use manifests::places::{Location, Places, path_of};
 use spdx_expressions::ParseError;

@@ -2,10 +2,9 @@
 //! [Cargo's](https://doc.rust-lang.org/cargo/reference/external-tools.html), whose messages have the form of
 //! [rustc's](https://doc.rust-lang.org/rustc/json.html).
 
-use crate::diagnostics::{Diagnostic, Reported, end_of, weight_word};
-use crate::rendering::push_rendered;
-use crate::replacements::{Replacement, replacement_of};
-use crate::source_lines::Window;
+use diagnostics::{
+    Diagnostic, Replacement, Reported, Window, end_of, push_rendered, replacement_of, weight_word,
+};
 use key_answers::json_lines;
 use manifest_lints_findings::Children;
 use manifests::places::Location;

@@ -1,8 +1,7 @@
 //! The explanations of the lints, for people.
 
-use crate::diagnostics::own_weight;
-use crate::weight_rules::Weight;
 use cargo_platform::shown_start;
+use diagnostics::{Weight, own_weight};
 use manifest_lints_findings::{CODES, Code, LINTS_BESIDE, Lint, near};
 use std::alloc::{AllocError, Global};
 

@@ -1,6 +1,6 @@
 //! The numbers of checked files and keys, and of diagnostics.
 
-use crate::weight_rules::Weight;
+use diagnostics::Weight;
 use std::alloc::{AllocError, Global};
 
 /// The numbers of manifests, configurations and keys that were checked, of files that could not be read, and of

@@ -1,11 +1,9 @@
 //! The output formats of diagnostics.
 
 use crate::cargo_json::push_cargo_message;
-use crate::diagnostics::{Diagnostic, Reported, end_of, weight_word};
 use crate::escapes::escaped;
-use crate::rendering::{coloured, push_rendered};
 use crate::sarif::{push_notification, push_result, sarif_begin, sarif_end};
-use crate::weight_rules::Weight;
+use diagnostics::{Diagnostic, Reported, Weight, coloured, end_of, push_rendered, weight_word};
 use key_answers::json_lines;
 use manifests::places::Location;
 use serde::Serialize;

@@ -1,6 +1,6 @@
 //! The diagnostics for findings on keys, and for what is in a wrong place.
 
-use crate::diagnostics::{Diagnostic, Label, own_weight};
+use diagnostics::{Diagnostic, Label, own_weight};
 use manifest_lints_findings::{Children, Finding, Lint, Report, Site, WrongPlace};
 use manifests::places::{Location, Places};
 use std::alloc::{AllocError, Global};

@@ -1,10 +1,9 @@
 //! Diagnostics on the rules in a manifest that are invalid, or that nothing needs.
 
 use crate::codes::{UnknownLint, unknown_subject};
-use crate::diagnostics::{Diagnostic, own_weight};
 use crate::settings::{Fault, FaultAt, TOOL, UNDERSCORED_TOOL, WORDS};
-use crate::weight_rules::Rule;
 use cargo_platform::{inside_cfg, shown_start};
+use diagnostics::{Diagnostic, Rule, own_weight};
 use manifest_lints_findings::{Children, Lint, near};
 use manifests::places::{Location, Places, path_of};
 use std::alloc::{AllocError, Global};

@@ -1,10 +1,8 @@
 //! Diagnostics in the Static Analysis Results Interchange Format (SARIF), 2.1.0, a standard of OASIS.
 
 use crate::codes::{Explained, all_explained};
-use crate::diagnostics::{Reported, end_of, weight_word};
 use crate::escapes::uri_of;
-use crate::replacements::{Replacement, replacement_of};
-use crate::weight_rules::Weight;
+use diagnostics::{Replacement, Reported, Weight, end_of, replacement_of, weight_word};
 use key_answers::json_lines;
 use manifests::places::Location as Place;
 use serde::Serialize;

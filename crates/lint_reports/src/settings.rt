@@ -1,7 +1,7 @@
 //! The rules in the metadata of a manifest.
 
-use crate::weight_rules::{Rule, Setting, Subject};
 use cargo_platform::{Cfg, Platform, ReadError};
+use diagnostics::{Rule, Setting, Subject};
 use former_names::Release;
 use manifest_lints_findings::Lint;
 use std::alloc::{AllocError, Global};

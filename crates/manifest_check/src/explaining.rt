@@ -1,9 +1,9 @@
 //! The options `--list-codes` and `--explain` of `lint`.
 
 use anyhow::{Result, bail};
+use diagnostics::weight_word;
 use key_answers::answer::{Answer, Status};
 use lint_reports::codes::{all_explained, unknown_lint};
-use lint_reports::weight_word;
 use std::alloc::{AllocError, Global};
 
 /// Lists the lints, each with its level and a summary, one per line.

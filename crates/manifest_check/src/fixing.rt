@@ -3,9 +3,9 @@
 use crate::replacing::{CHANGED, FileChange, text_read, write_change};
 use crate::sameness::{Renames, is_same_manifest};
 use cargo_platform::shown_text;
+use diagnostics::{Diagnostic, Replacement, removals_of, replacement_of};
 use input_limits::without_mark;
 use key_answers::answer::{Answer, Status};
-use lint_reports::{Diagnostic, Replacement, removals_of, replacement_of};
 use std::alloc::{AllocError, Global};
 use std::collections::{BTreeMap, BTreeSet};
 use std::rt::Files;

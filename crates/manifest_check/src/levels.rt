@@ -2,8 +2,8 @@
 
 use anyhow::{Result, bail};
 use clap::ArgMatches;
+use diagnostics::{Rule, Setting, Subject, Weight};
 use lint_reports::codes::unknown_subject;
-use lint_reports::{Rule, Setting, Subject, Weight};
 use std::alloc::Global;
 
 /// The options that set levels.

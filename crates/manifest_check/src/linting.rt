@@ -11,12 +11,12 @@ use cargo_configuration::{
     manifest_with_targets,
 };
 use cargo_platform::{shown_start, shown_text};
+use diagnostics::{Diagnostic, Reported, Rule, Weighed, Weight, status_of, weight_by_each};
 use input_limits::{Unusable, without_mark};
 use key_answers::answer::{Answer, Status};
 use lint_reports::{
-    Counts, Diagnostic, Formers, Printed, Project, Reported, Rule, Settings, Style, Weighed,
-    Weight, diagnostic_of, diagnostic_of_fault, diagnostic_of_unneeded, diagnostic_of_wrong,
-    status_of, weight_by_each, wrong_fields,
+    Counts, Formers, Printed, Project, Settings, Style, diagnostic_of, diagnostic_of_fault,
+    diagnostic_of_unneeded, diagnostic_of_wrong, wrong_fields,
 };
 use manifest_lints::{Code, Finding, Report, Words, lint};
 use manifest_lints_findings::{WrongPlace, wrong_places};

@@ -1,8 +1,9 @@
 //! The roots of workspaces, as `lint` meets them: their rules, and what their members inherit.
 
+use diagnostics::{Rule, Setting, Weighed};
 use former_names::Release;
 use input_limits::INPUT;
-use lint_reports::{Rule, Setting, Settings, Weighed};
+use lint_reports::Settings;
 use std::alloc::{AllocError, Global};
 use std::rt::{Env, Files};
 use toml::{Table, Value};

@@ -1,10 +1,10 @@
 //! What `lint` reports of files that can't be used: these errors have no lint, and the exit status is 2.
 
 use super::{Source, Telling};
-use key_answers::answer::Status;
-use lint_reports::{
+use diagnostics::{
     Diagnostic, Reported, Weight, diagnostic_of_failure, diagnostic_of_key, diagnostic_of_syntax,
 };
+use key_answers::answer::Status;
 use manifest_answers::cargo_refuses::Rejected;
 use manifest_answers::deep::{DeepKey, first_deep};
 use manifest_answers::taking::{Taken, manifest_at, taken_at};

@@ -1,0 +1,5 @@
+use Rattle.diagnostics.proofs.Making.{last}
+use Rattle.diagnostics.proofs.weight_laws.the_last_decides.Goals as goal
+
+pub returns : goal.returns
+returns c = last

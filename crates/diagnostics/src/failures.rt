@@ -1,0 +1,85 @@
+//! Diagnostics on what cannot be read or used. They are errors without a lint, so no rule changes their level.
+
+use crate::diagnostic::Diagnostic;
+use crate::unquoted::Unquoted;
+use crate::weight_rules::Weight;
+use manifest_lints_findings::Children;
+use manifests::places::{Location, Places};
+use manifests::reading::SyntaxError;
+use std::alloc::{AllocError, Global};
+use toml_spans::Span;
+
+/// Returns the diagnostic on a file that cannot be used, or on something that Cargo rejects, at this place if it is
+/// known. Fails if memory is refused.
+pub fn diagnostic_of_failure(
+    alloc: Global,
+    message: String,
+    at: Option<Location>,
+) -> Result<Diagnostic, AllocError> {
+    let mut primary = Vec::new(alloc);
+    if let Some(at) = at {
+        primary.push(at)?;
+    }
+    Ok(Diagnostic {
+        lint: None,
+        weight: Weight::Error,
+        subject: String::new(alloc),
+        key: None,
+        message,
+        children: Children::none(alloc),
+        primary,
+        label: None,
+        key_at: None,
+        also_at: Vec::new(alloc),
+        suggestion: None,
+        span: None,
+    })
+}
+
+/// Returns the diagnostic on a manifest that is not TOML. If the error is that the key `cfg(..)` has no quotes, the
+/// diagnostic suggests to quote it. Fails if memory is refused.
+pub fn diagnostic_of_syntax(alloc: Global, error: &SyntaxError) -> Result<Diagnostic, AllocError> {
+    let message = error.message.clone()?;
+    let mut diagnostic = diagnostic_of_failure(alloc, message, Some(error.at))?;
+    let text = error.text.as_str();
+    if let Some(unquoted) = Unquoted::at(text, error.at) {
+        diagnostic.key_at = Some(unquoted.at);
+        diagnostic.suggestion = Some(unquoted.condition(alloc, text)?);
+        diagnostic.children = Children::of_help(alloc, unquoted.advice(alloc, text)?)?;
+    }
+    Ok(diagnostic)
+}
+
+/// Returns the place of a byte of a key, or else that of the key.
+fn place_in_key(
+    alloc: Global,
+    places: &Places,
+    key: &str,
+    byte: usize,
+) -> Result<Option<Location>, AllocError> {
+    let part = Span {
+        start: byte,
+        end: byte.saturating_add(1),
+    };
+    match places.located_part(alloc, key, part)? {
+        Some(at) => Ok(Some(at)),
+        None => places.located_key(alloc, key),
+    }
+}
+
+/// Returns the diagnostic on a key that cannot be used because of what is at this byte of it. Fails if memory is
+/// refused.
+pub fn diagnostic_of_key(
+    alloc: Global,
+    places: &Places,
+    key: &str,
+    byte: usize,
+    message: String,
+) -> Result<Diagnostic, AllocError> {
+    let at = place_in_key(alloc, places, key, byte)?;
+    let mut diagnostic = diagnostic_of_failure(alloc, message, at)?;
+    diagnostic.subject = String::from_str(alloc, "target")?;
+    diagnostic.key = Some(String::from_str(alloc, key)?);
+    diagnostic.span = Some((byte, byte.saturating_add(1)));
+    Ok(diagnostic)
+}

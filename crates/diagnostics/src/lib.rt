@@ -1,0 +1,26 @@
+//! Diagnostics: what is wrong with a text of TOML and where, the level that rules give it, and how it is printed with the
+//! lines of the text, as rustc does.
+//!
+//! Rules have an order, and the last one that applies to a diagnostic decides. They are named as rustc's [lint
+//! levels](https://doc.rust-lang.org/rustc/lints/levels.html) are, and `warnings` means, as there, all that are
+//! warnings after the rules before.
+#![tactic(auto)]
+
+mod diagnostic;
+mod failures;
+mod removals;
+mod rendering;
+mod replacements;
+mod source_lines;
+mod unquoted;
+mod weight_laws;
+mod weight_rules;
+
+pub use diagnostic::{Diagnostic, Label, Reported, end_of, own_weight, status_of, weight_word};
+pub use failures::{diagnostic_of_failure, diagnostic_of_key, diagnostic_of_syntax};
+pub use removals::removals_of;
+pub use rendering::{coloured, push_rendered};
+pub use replacements::{Replacement, replacement_of};
+pub use source_lines::Window;
+pub use weight_laws::{one_weight, the_last_decides, unheard_rules_do_nothing};
+pub use weight_rules::{Rule, Setting, Subject, Weighed, Weight, weight_by, weight_by_each};

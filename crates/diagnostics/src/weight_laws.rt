@@ -1,0 +1,18 @@
+//! Laws about the definitions. The functions do nothing: the contract of each is a law.
+
+ghost use Rattle.diagnostics.specs.WeightLaws.{MakesOne, IsKept, LastDecides};
+
+/// States that rules turn a level into exactly one level.
+pub fn one_weight()
+    ensures { MakesOne }
+{}
+
+/// States that a diagnostic keeps its level if no rule applies to it.
+pub fn unheard_rules_do_nothing()
+    ensures { IsKept }
+{}
+
+/// States that a rule decides if it applies to a diagnostic of any level and no rule after it applies.
+pub fn the_last_decides()
+    ensures { LastDecides }
+{}

@@ -1,0 +1,175 @@
+//! Rules that set the levels of diagnostics.
+
+ghost use Rattle.std.specs.Prelude.{◌≡◌, ◌↔◌, ◌++◌, IsTrue, option_map};
+ghost use Rattle.manifest_lints_findings.specs.Codes.{lint_word};
+ghost use Rattle.diagnostics.specs.Weights.{weight_set, severity, IsAbout, IsMeant, Hears, Makes, IsNeeded};
+
+use manifest_lints_findings::Lint;
+
+/// The level of a diagnostic.
+#[derive(Clone, Copy, Debug, PartialEq, Eq, Drop)]
+pub enum Weight {
+    /// The diagnostic is not reported.
+    Allowed,
+    /// Something that may be intended.
+    Note,
+    /// Something that does not do what its author may expect.
+    Warning,
+    /// Something that is rejected or left out.
+    Error,
+}
+
+impl Weight {
+    /// Returns how severe the weight is, from 0 for what is not reported to 3 for an error.
+    pub fn severity(self) -> u8
+        ensures { result ≡ severity self }
+    {
+        match self {
+            Weight::Allowed => 0,
+            Weight::Note => 1,
+            Weight::Warning => 2,
+            Weight::Error => 3,
+        }
+    }
+}
+
+/// The level that a rule sets.
+#[derive(Clone, Copy, Debug, PartialEq, Eq, Drop)]
+pub enum Setting {
+    /// The diagnostic is not reported.
+    Allow,
+    /// The diagnostic is a warning.
+    Warn,
+    /// The diagnostic is an error.
+    Deny,
+}
+
+impl Setting {
+    /// Returns the level of a diagnostic to which a rule with this setting applies.
+    pub fn weight(self) -> Weight
+        ensures { result ≡ weight_set self }
+    {
+        match self {
+            Setting::Allow => Weight::Allowed,
+            Setting::Warn => Weight::Warning,
+            Setting::Deny => Weight::Error,
+        }
+    }
+}
+
+/// The diagnostics that a rule is about.
+#[derive(Drop)]
+pub enum Subject {
+    /// The diagnostics of this lint.
+    Lint(Lint),
+    /// The diagnostics that are warnings after the rules before this one.
+    Warnings,
+    /// The diagnostics that are notes after the rules before this one.
+    Notes,
+}
+
+/// A rule that sets the level of diagnostics.
+#[derive(Drop)]
+pub struct Rule {
+    pub setting: Setting,
+    pub subject: Subject,
+    /// The only key to which the rule applies. `None` applies to all.
+    pub key: Option<String>,
+    /// The index of the entry in the list of the metadata that has the rule, if it is from there.
+    pub entry: Option<usize>,
+}
+
+/// A diagnostic, as rules see it.
+#[derive(Clone, Copy, Drop)]
+pub struct Weighed<'a> {
+    pub lint: Lint,
+    /// The key that it is about, if there is one.
+    pub key: Option<&'a str>,
+    /// The level of its lint.
+    pub weight: Weight,
+}
+
+impl Rule {
+    /// Returns whether the rule's subject includes a diagnostic that has the level `weight` after the rules before.
+    fn is_about(&self, found: &Weighed<'_>, weight: Weight) -> bool
+        ensures { IsTrue result ↔ IsAbout self.now.subject (lint_word found.now.lint) weight }
+    {
+        match &self.subject {
+            Subject::Lint(lint) => lint.word() == found.lint.word(),
+            Subject::Warnings => weight == Weight::Warning,
+            Subject::Notes => weight == Weight::Note,
+        }
+    }
+}
+
+/// Returns whether all keys are meant, or this one is.
+fn is_meant(meant: &Option<String>, key: Option<&str>) -> bool
+    ensures { IsTrue result ↔ IsMeant meant.now (option_map (λ k. k.now) key.entry) }
+{
+    match (meant, key) {
+        (None, _) => true,
+        (Some(meant), Some(key)) => meant.as_str() == key,
+        (Some(_), None) => false,
+    }
+}
+
+impl Rule {
+    /// Returns whether the rule applies to a diagnostic that has the level `weight` after the rules before.
+    pub fn is_heard(&self, found: &Weighed<'_>, weight: Weight) -> bool
+        ensures { IsTrue result
+            ↔ Hears self.now (lint_word found.now.lint) (option_map (λ k. k.now) found.now.key) weight }
+    {
+        self.is_about(found, weight) && is_meant(&self.key, found.key)
+    }
+}
+
+/// Returns the level of a diagnostic after the rules. They apply in their order: each sets the level if it applies to
+/// the diagnostic at the level that it has by then.
+pub fn weight_by(rules: &[Rule], found: &Weighed<'_>) -> Weight
+    ensures { Makes (lint_word found.now.lint) (option_map (λ k. k.now) found.now.key) found.now.weight
+        rules.now result }
+{
+    let mut weight = found.weight;
+    'rules: for rule in rules {
+        if rule.is_heard(found, weight) {
+            weight = rule.setting.weight();
+        }
+    }
+    weight
+}
+
+impl Rule {
+    /// Returns whether the rule applies to one of the diagnostics that would be reported without any rule.
+    pub fn is_needed(&self, found: &[Weighed<'_>]) -> bool
+        ensures { IsTrue result ↔ IsNeeded self.now found.now }
+    {
+        for it in found {
+            if it.weight != Weight::Allowed && self.is_heard(it, it.weight) {
+                return true;
+            }
+        }
+        false
+    }
+}
+
+/// Returns the level of a diagnostic after the rules of a workspace, then those of its package, and then those of a
+/// command line, which take precedence.
+pub fn weight_by_each(
+    of_workspace: &[Rule],
+    of_package: &[Rule],
+    of_command: &[Rule],
+    found: &Weighed<'_>,
+) -> Weight
+    ensures { Makes (lint_word found.now.lint) (option_map (λ k. k.now) found.now.key) found.now.weight
+        (of_workspace.now ++ (of_package.now ++ of_command.now)) result }
+{
+    let by_workspace = Weighed {
+        weight: weight_by(of_workspace, found),
+        ..*found
+    };
+    let by_package = Weighed {
+        weight: weight_by(of_package, &by_workspace),
+        ..*found
+    };
+    weight_by(of_command, &by_package)
+}
