@@ -55,6 +55,15 @@ impl Setting {
             Setting::Deny => Weight::Error,
         }
     }
+
+    /// Returns the name of the setting.
+    pub fn word(self) -> &'static str {
+        match self {
+            Setting::Allow => "allow",
+            Setting::Warn => "warn",
+            Setting::Deny => "deny",
+        }
+    }
 }
 
 /// The diagnostics that a rule is about.
@@ -66,6 +75,26 @@ pub enum Subject {
     Warnings,
     /// The diagnostics that are notes after the rules before this one.
     Notes,
+}
+
+impl Subject {
+    /// Parses the subject of a rule: `warnings`, `notes`, or the name of a lint. Returns `None` for any other word.
+    pub fn of(word: &str) -> Option<Subject> {
+        match word {
+            "warnings" => Some(Subject::Warnings),
+            "notes" => Some(Subject::Notes),
+            _ => Some(Subject::Lint(Lint::by_name(word)?)),
+        }
+    }
+
+    /// Returns the name of the subject.
+    pub fn word(&self) -> &'static str {
+        match self {
+            Subject::Lint(lint) => lint.word(),
+            Subject::Warnings => "warnings",
+            Subject::Notes => "notes",
+        }
+    }
 }
 
 /// A rule that sets the level of diagnostics.

@@ -3,7 +3,6 @@
 use cargo_platform::{Cfg, Platform, ReadError};
 use diagnostics::{Rule, Setting, Subject};
 use former_names::Release;
-use manifest_lints_findings::Lint;
 use std::alloc::{AllocError, Global};
 use toml::{Table, Value};
 
@@ -76,37 +75,6 @@ pub struct Settings {
     pub rustc: Option<Release>,
     /// The errors in the table.
     pub faults: Vec<FaultAt>,
-}
-
-impl Setting {
-    /// Returns the name of the setting.
-    pub fn word(self) -> &'static str {
-        match self {
-            Setting::Allow => "allow",
-            Setting::Warn => "warn",
-            Setting::Deny => "deny",
-        }
-    }
-}
-
-impl Subject {
-    /// Parses the subject of a rule: `warnings`, `notes`, or the name of a lint. Returns `None` for any other word.
-    pub fn of(word: &str) -> Option<Subject> {
-        match word {
-            "warnings" => Some(Subject::Warnings),
-            "notes" => Some(Subject::Notes),
-            _ => Some(Subject::Lint(Lint::by_name(word)?)),
-        }
-    }
-
-    /// Returns the name of the subject.
-    pub fn word(&self) -> &'static str {
-        match self {
-            Subject::Lint(lint) => lint.word(),
-            Subject::Warnings => "warnings",
-            Subject::Notes => "notes",
-        }
-    }
 }
 
 /// Returns the value of this name in `package.metadata` or `workspace.metadata` of a manifest, if there is one. `part`
