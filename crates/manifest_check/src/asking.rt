@@ -1,7 +1,6 @@
 //! The subcommands, each run with the arguments that `clap` parsed.
 
 use crate::explaining::{explained_code, listed_codes};
-use crate::fixing::Fixing;
 use crate::graphs::graph_answer;
 use crate::levels::{command_rules, fails_from};
 use crate::limits::{limit_of, text_of};
@@ -16,6 +15,7 @@ use clap::ArgMatches;
 use input_limits::{INPUT, Unusable};
 use key_answers::answer::{Answer, Refusal, Status, answered};
 use key_answers::comparing::compare;
+use lint_fixes::Fixing;
 use manifest_answers::faults::Asking;
 use manifest_answers::given_targets::{FactsFrom, GivenTargets};
 use manifest_answers::questions;

@@ -3,7 +3,6 @@
 mod unusable;
 
 use crate::declaring::declare;
-use crate::fixing::{Fixes, Fixing, fix_file};
 use crate::other_rustc::{OtherRustc, declare_by, given_formers, judge_by};
 use crate::roots::{Root, is_unneeded};
 use cargo_configuration::{
@@ -14,6 +13,7 @@ use cargo_platform::{shown_start, shown_text};
 use diagnostics::{Diagnostic, Reported, Rule, Weighed, Weight, status_of, weight_by_each};
 use input_limits::{Unusable, without_mark};
 use key_answers::answer::{Answer, Status};
+use lint_fixes::{Fixes, Fixing, fix_file};
 use lint_reports::{
     Counts, Formers, Printed, Project, Settings, Style, diagnostic_of, diagnostic_of_fault,
     diagnostic_of_unneeded, diagnostic_of_wrong, wrong_fields,

@@ -4,7 +4,6 @@
 mod asking;
 mod declaring;
 mod explaining;
-mod fixing;
 mod graphs;
 mod levels;
 mod limits;
@@ -12,10 +11,8 @@ mod linting;
 mod locks;
 mod named;
 mod other_rustc;
-mod replacing;
 mod reports;
 mod roots;
-mod sameness;
 mod styles;
 mod target_names;
 mod words;

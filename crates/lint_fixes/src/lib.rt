@@ -1,0 +1,8 @@
+//! The fixes of `lint --fix`: which suggestions are applied to a manifest, and how its file is replaced.
+#![tactic(auto)]
+
+mod fixing;
+mod replacing;
+mod sameness;
+
+pub use fixing::{Fixes, Fixing, fix_file};
