@@ -1,7 +1,7 @@
 -- Paths of dependencies from a root.
-use Rattle.std.specs.Prelude.{◌≡◌, ◌≤◌, ℕ, IsTrue, List, [], ◌∷◌, ◌++◌, Option, Some, length}
+use Rattle.std.specs.Prelude.{◌≡◌, ◌≤◌, ℕ, IsTrue, List, [], ◌∷◌, ◌++◌, Option, Some, None, length}
 use Rattle.std.specs.List.{slice_get}
-use Rattle.known_targets.specs.Sets.{is_member}
+use Rattle.known_targets.specs.Sets.{is_member, place}
 use Rattle.known_targets.specs.declared.known.KnownTarget.{KnownTarget}
 use Rattle.package_graphs.specs.Kinds.{is_followed}
 use Rattle.package_graphs.specs.Packages.{is_root, is_macro, dependencies, Sided, asked_at, side_after, StartsOn}
@@ -9,6 +9,8 @@ use Rattle.package_graphs.specs.declared.packages.Kinds.{Kinds}
 use Rattle.package_graphs.specs.declared.packages.Dependency.{Dependency}
 use Rattle.package_graphs.specs.declared.packages.Package.{Package}
 use Rattle.package_graphs.specs.declared.packages.Side.{Side}
+use Rattle.package_graphs.specs.declared.paths.PathQuery.{PathQuery}
+use Rattle.package_graphs.specs.declared.paths.PathTo.{PathTo}
 use Rattle.package_graphs.specs.declared.paths.Step.{Step}
 
 abbrev pub Steps : Type 0
@@ -52,3 +54,13 @@ pub record IsShortestOn (packages : List Package) (kinds : Kinds) (host : Option
     (steps : List Step) (n : Sided) : Type 0 where
   pub path : IsPath packages kinds host k steps n
   pub shortest : (others : List Step) → IsPath packages kinds host k others n → length steps ≤ length others
+
+-- the steps are a shortest path to the package p, on this side, or without one on either side
+abbrev pub IsShortestTo : List Package → Kinds → Option KnownTarget → ℕ → Option Side → List Step → ℕ → Type 0
+IsShortestTo packages kinds host k None steps p = IsShortest packages kinds host k steps p
+IsShortestTo packages kinds host k (Some side) steps p = IsShortestOn packages kinds host k steps (p, side)
+
+-- the path is a shortest one of the query to its package
+abbrev pub IsShortestOf : List Package → PathQuery → PathTo → Type 0
+IsShortestOf packages query path =
+    IsShortestTo packages query.kinds query.host (place query.at) query.side path.steps.items path.to

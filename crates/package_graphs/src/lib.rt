@@ -14,5 +14,5 @@ mod sides;
 pub use graph::{Edge, Graph};
 pub use package_sets::{PackageSets, present_packages};
 pub use packages::{Dependency, Kind, Kinds, Package, Side};
-pub use paths::{Step, shortest_path, shortest_path_on};
+pub use paths::{PathQuery, PathTo, Step, shortest_path, shortest_path_on, shortest_paths};
 pub use presence::present;

@@ -1,12 +1,12 @@
 //! Shortest dependency paths from a root to a package.
 
-ghost use Rattle.std.specs.Prelude.{◌≡◌, ◌<◌, ◌≤◌, IsTrue, IfOk, IfSome, IfNone, length};
+ghost use Rattle.std.specs.Prelude.{◌≡◌, ◌<◌, ◌≤◌, IsTrue, IfOk, IfSome, IfNone, All, length};
 ghost use Rattle.known_targets.specs.Sets.{place};
 ghost use Rattle.package_graphs.specs.Packages.{Sided, StartsOn, dependencies};
-ghost use Rattle.package_graphs.specs.Paths.{Steps, IsShortest, IsShortestOn};
+ghost use Rattle.package_graphs.specs.Paths.{Steps, IsShortest, IsShortestOn, IsShortestTo, IsShortestOf};
 ghost use Rattle.package_graphs.specs.Inside.Numbered.{IsQuestion};
 ghost use Rattle.package_graphs.specs.Inside.Searching.{LeadsAlong, IsStepOf, IsPathOf, Leads, distance, IsWithin};
-ghost use Rattle.package_graphs.specs.Inside.Searching.{IsNear};
+ghost use Rattle.package_graphs.specs.Inside.Searching.{IsNear, AreNear};
 
 use crate::following::is_root;
 use crate::packages::{Dependency, Kinds, Package, Side};
@@ -65,12 +65,10 @@ pub fn shortest_path(
         at,
     };
     let spread = search.spread(alloc)?;
-    let steps = spread.steps_to(alloc, (to, spread.nearest_side(to, host)))?;
-    if search.leads_to(&steps, to) && search.is_no_nearer(&spread.distances, steps.len(), to) {
-        Ok(Some(steps))
-    } else {
-        Ok(None)
+    if !search.are_all_near(&spread.distances) {
+        return Ok(None);
     }
+    search.path_to(alloc, &spread, None, to)
 }
 
 /// Returns the steps of a shortest path from a root to a package that is built for a side, as `shortest_path` does.
@@ -93,12 +91,60 @@ pub fn shortest_path_on(
         at,
     };
     let spread = search.spread(alloc)?;
-    let steps = spread.steps_to(alloc, to)?;
-    if search.leads_on(&steps, to) && search.is_no_nearer_on(&spread.distances, steps.len(), to) {
-        Ok(Some(steps))
-    } else {
-        Ok(None)
+    if !search.are_all_near(&spread.distances) {
+        return Ok(None);
     }
+    let (index, side) = to;
+    search.path_to(alloc, &spread, Some(side), index)
+}
+
+/// What a search for paths follows: the dependencies of these kinds whose conditions are true on a target.
+#[derive(Clone, Copy, Drop)]
+pub struct PathQuery {
+    pub kinds: Kinds,
+    pub host: Option<KnownTarget>,
+    pub at: KnownTarget,
+    /// The side for which the packages at the ends of the paths are built, or `None` for either side.
+    pub side: Option<Side>,
+}
+
+/// The steps of a path from a root to a package.
+#[derive(Drop)]
+pub struct PathTo {
+    /// The index of the package.
+    pub to: usize,
+    pub steps: Vec<Step>,
+}
+
+/// Returns a shortest path from a root to each of the packages at these indexes to which one was found, in their order,
+/// as `shortest_path` and `shortest_path_on` do. All are found by one search. Fails only if an allocation fails.
+pub fn shortest_paths(
+    alloc: Global,
+    packages: &[Package],
+    query: PathQuery,
+    to: &[usize],
+) -> Result<Vec<PathTo>, AllocError>
+    // The steps of each path lead from a root to its package on the target, for the side if one is asked for, and no
+    // fewer steps do.
+    ensures { IfOk result (λ paths. All (IsShortestOf packages.now query) paths.items) }
+{
+    let search = Search {
+        question: Question::new(query.kinds, query.host),
+        packages,
+        at: query.at,
+    };
+    let spread = search.spread(alloc)?;
+    let mut paths = Vec::new(alloc);
+    if !search.are_all_near(&spread.distances) {
+        return Ok(paths);
+    }
+    'packages: for index in to {
+        let found = search.path_to(alloc, &spread, query.side, *index)?;
+        if let Some(steps) = found {
+            paths.push(PathTo { to: *index, steps })?;
+        }
+    }
+    Ok(paths)
 }
 
 impl Spread {
@@ -239,6 +285,57 @@ impl<'a> Search<'a> {
         Ok(())
     }
 
+    /// Returns the steps of a shortest path to the package at an index, on this side, or without one on either side, if
+    /// one was found.
+    fn path_to(
+        &self,
+        alloc: Global,
+        spread: &Spread,
+        side: Option<Side>,
+        to: usize,
+    ) -> Result<Option<Vec<Step>>, AllocError>
+        requires question { IsQuestion self.now.question }
+        requires near { AreNear self.now spread.now.distances.items }
+        ensures { IfOk result (λ found. IfSome found (λ steps. IsShortestTo self.now.packages.now
+            self.now.question.kinds self.now.question.host (place self.now.at) side steps.items to)) }
+    {
+        match side {
+            Some(side) => {
+                let steps = spread.steps_to(alloc, (to, side))?;
+                let is_shortest = self.is_shortest_on(&spread.distances, &steps, (to, side));
+                Ok(if is_shortest { Some(steps) } else { None })
+            }
+            None => {
+                let nearest = spread.nearest_side(to, self.question.host);
+                let steps = spread.steps_to(alloc, (to, nearest))?;
+                let is_shortest = self.is_shortest(&spread.distances, &steps, to);
+                Ok(if is_shortest { Some(steps) } else { None })
+            }
+        }
+    }
+
+    /// Returns whether the steps lead from a root to the package, and no fewer steps do.
+    fn is_shortest(&self, distances: &[usize], steps: &[Step], to: usize) -> bool
+        requires question { IsQuestion self.now.question }
+        requires near { AreNear self.now distances.now }
+        ensures path { IsTrue result → Leads self.now steps.now to }
+        ensures shortest { IsTrue result → (others : Steps) → Leads self.now others to
+            → length steps.now ≤ length others }
+    {
+        self.leads_to(steps, to) && self.is_no_nearer(distances, steps.len(), to)
+    }
+
+    /// Returns whether the steps lead from a root to the package on this side, and no fewer steps do.
+    fn is_shortest_on(&self, distances: &[usize], steps: &[Step], to: Place) -> bool
+        requires question { IsQuestion self.now.question }
+        requires near { AreNear self.now distances.now }
+        ensures path { IsTrue result → IsPathOf self.now steps.now to }
+        ensures shortest { IsTrue result → (others : Steps) → IsPathOf self.now others to
+            → length steps.now ≤ length others }
+    {
+        self.leads_on(steps, to) && self.is_no_nearer_on(distances, steps.len(), to)
+    }
+
     /// Returns whether the steps lead from a root to the package.
     fn leads_to(&self, steps: &[Step], to: usize) -> bool
         requires { IsQuestion self.now.question }
@@ -296,10 +393,10 @@ impl<'a> Search<'a> {
 
     /// Returns whether the distances show that no fewer steps lead to the package.
     fn is_no_nearer(&self, distances: &[usize], steps: usize, to: usize) -> bool
-        requires { IsQuestion self.now.question }
+        requires { AreNear self.now distances.now }
         ensures { IsTrue result → (others : Steps) → Leads self.now others to → steps ≤ length others }
     {
-        if to >= self.packages.len() || !self.are_all_near(distances) {
+        if to >= self.packages.len() {
             return false;
         }
         if steps > distance_at(distances, (to, Side::Target)) {
@@ -310,11 +407,11 @@ impl<'a> Search<'a> {
 
     /// Returns whether the distances show that no fewer steps lead to the package on this side.
     fn is_no_nearer_on(&self, distances: &[usize], steps: usize, to: Place) -> bool
-        requires { IsQuestion self.now.question }
+        requires { AreNear self.now distances.now }
         ensures { IsTrue result → (others : Steps) → IsPathOf self.now others to → steps ≤ length others }
     {
         let (index, _) = to;
-        if index >= self.packages.len() || !self.are_all_near(distances) {
+        if index >= self.packages.len() {
             return false;
         }
         steps <= distance_at(distances, to)
@@ -323,7 +420,7 @@ impl<'a> Search<'a> {
     /// Returns whether each place is at most one step farther than those before it.
     fn are_all_near(&self, distances: &[usize]) -> bool
         requires { IsQuestion self.now.question }
-        ensures { IsTrue result → (n : Sided) → n.0 < length self.now.packages.now → IsNear self.now distances.now n }
+        ensures { IsTrue result → AreNear self.now distances.now }
     {
         'packages: for i in 0..self.packages.len() {
             if !self.are_near(distances, (i, Side::Target)) {

@@ -32,3 +32,7 @@ IsWithin s ds m most d =
 pub record IsNear (s : Search) (ds : List ℕ) (m : Sided) : Type 0 where
   pub root : StartsOn s.packages.now m → distance ds m ≡ 0
   pub next : All (λ d. IsWithin s ds m (distance ds m + 1) d) (dependencies s.packages.now m.0)
+
+-- each place is at most one step farther than those before it
+abbrev pub AreNear : Search → List ℕ → Type 0
+AreNear s ds = (n : Sided) → n.0 < length s.packages.now → IsNear s ds n

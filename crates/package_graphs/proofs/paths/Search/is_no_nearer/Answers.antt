@@ -12,5 +12,5 @@ returns c est others leads =
     let host : c.args.steps ≤ distance ds (c.args.to, Host) =
     omega (arith, leb-true c.args.steps c.distance_at-2.result est, c.distance_at-2.ensures) in
     both_far s ds c.args.to c.args.steps (omega (arith, c.if-steps-distance_at.false, c.distance_at.ensures)) host
-    (c.are_all_near.ensures c.if-not-are_all_near.false) c.if-to-self.false others
+    c.requires c.if-to-self.false others
     leads

@@ -6,6 +6,5 @@ use Rattle.package_graphs.proofs.paths.Search.is_no_nearer_on.Goals as goal
 pub returns : goal.returns
 returns c est others leads =
     let least = leb-true c.args.steps c.distance_at.result est in
-    let near = c.are_all_near.ensures c.if-not-are_all_near.false in
-    let most = no_nearer c.args.self.now c.args.distances.now near others c.args.to leads c.if-index-self.false in
+    let most = no_nearer c.args.self.now c.args.distances.now c.requires others c.args.to leads c.if-index-self.false in
     omega (arith, least, most, c.distance_at.ensures)
