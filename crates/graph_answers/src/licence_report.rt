@@ -2,6 +2,7 @@
 //! many packages there are by reason.
 
 use crate::asked::Asked;
+use crate::dependency_paths::PackagesOn;
 use crate::faults::fault_lines;
 use crate::graph::Graph;
 use crate::lines::{push, push_comma, shown, shown_targets};
@@ -10,6 +11,9 @@ use cargo_platform::shown_start;
 use known_targets::TargetSet;
 use licence_audits::{Finding, Subject, Told};
 use std::alloc::{AllocError, Global};
+
+/// The indentation of the lines below that of a licence.
+const INDENT: &str = "    ";
 
 /// The reason why a package is reported.
 #[derive(Clone, Copy, Debug, PartialEq, Eq, Drop)]
@@ -103,6 +107,8 @@ pub struct Reported<'r, 'a> {
     pub graph: &'r Graph<'a>,
     pub told: &'r [Told],
     pub asked: &'r Asked<'a>,
+    /// The dependency paths to the reported packages, by the indexes of these.
+    pub paths: &'r [PackagesOn],
 }
 
 impl<'r, 'a> Reported<'r, 'a> {
@@ -125,7 +131,32 @@ impl<'r, 'a> Reported<'r, 'a> {
         }
     }
 
-    /// Appends the line of a package behind a text, and the error of its licence if that is no expression.
+    /// Appends the line of a dependency path to a package, indented, unless the package is a root.
+    fn push_path(
+        &self,
+        text: &mut String,
+        alloc: Global,
+        indent: &str,
+        index: usize,
+    ) -> Result<(), AllocError> {
+        let Some(path) = self.paths.get(index) else {
+            return Ok(());
+        };
+        if path.len() < 2 {
+            return Ok(());
+        }
+        push(text, indent)?;
+        for place in 0..path.len() {
+            if place > 0 {
+                push(text, " -> ")?;
+            }
+            push(text, self.graph.shown(alloc, path[place])?.as_str())?;
+        }
+        push(text, "\n")
+    }
+
+    /// Appends the line of a package behind a text, that of a dependency path to it, and the error of its licence if
+    /// that is no expression.
     fn push_package(
         &self,
         text: &mut String,
@@ -142,6 +173,8 @@ impl<'r, 'a> Reported<'r, 'a> {
         let note = built.sides().note();
         let line = format!(in alloc; "{start}{package}{note}, {targets}\n")?;
         push(text, line.as_str())?;
+        let indent = if start == INDENT { "        " } else { INDENT };
+        self.push_path(text, alloc, indent, index)?;
         push(text, self.error_lines(alloc, place)?.as_str())
     }
 
@@ -177,7 +210,7 @@ impl<'r, 'a> Reported<'r, 'a> {
         let line = format!(in alloc; "{label}: {count} packages, {targets}\n")?;
         push(text, line.as_str())?;
         for (_, place) in group {
-            self.push_package(text, alloc, "    ", *place)?;
+            self.push_package(text, alloc, INDENT, *place)?;
         }
         Ok(())
     }

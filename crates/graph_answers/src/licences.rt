@@ -2,53 +2,23 @@
 //! on which they are in the build.
 
 use crate::asked::{Asked, Words, unusable_words};
+use crate::dependency_paths::paths_to_reported;
 use crate::excluded::subject_of;
 use crate::faults::{fault_lines, fault_message};
 use crate::graph::Graph;
 use crate::identifiers::{Messages, Place};
-use crate::licence_report::{Reason, Reported, counts_line};
+use crate::licence_report::{Reported, counts_line};
 use crate::lines::push;
-use crate::packages::name_and_version;
 use crate::policies::AuditPolicy;
 use crate::unused::report_unused;
 use cargo_platform::shown_text;
 use key_answers::answer::{Answer, Refusal, Status};
-use key_answers::json_lines;
 use key_answers::printing::shown_name;
-use key_answers::targets::At;
 use licence_audits::{Exception, Finding, PackageSpec, Subject, Told, audit};
 use licence_policies::{ExceptionError, exception_of};
-use serde::Serialize;
 use spdx_expressions::{Licence, ParseError, ReadError};
 use std::alloc::{AllocError, Global};
 use std::mem;
-
-/// A line of `graph --allow --json`: a package whose licence is not allowed.
-#[derive(Drop, Serialize)]
-struct LicenceLine<'a> {
-    /// The name and the version of the package.
-    package: String,
-    id: &'a str,
-    /// The licence expression of the package.
-    license: Option<&'a str>,
-    /// If `finding` is `not-allowed`: the licence expression in canonical form.
-    expression: Option<String>,
-    /// The path of the licence file of the package, in its folder.
-    license_file: Option<&'a str>,
-    /// The number of targets in `at`.
-    targets: usize,
-    /// The selected targets on which the package is in the build.
-    at: At<'a>,
-    /// The sides for which the package is built. One of `target`, `host` and `both`.
-    side: Option<&'static str>,
-    /// One of `not-allowed`, `missing`, `file` and `refused`.
-    finding: &'static str,
-    /// If `finding` is `refused`: what was expected, and what was found.
-    message: Option<String>,
-    /// If `finding` is `refused`: the span of the error in the expression, as its first byte and the byte after its
-    /// last one.
-    span: Option<(usize, usize)>,
-}
 
 /// The allowed licences and the exceptions of an audit. Those of the policy, if there is one, are the first ones.
 #[derive(Drop)]
@@ -268,15 +238,17 @@ pub fn show_licences<'a>(
     if !told.is_empty() {
         answer.raise(Status::Found);
     }
-    if asked.json {
-        push_objects(&mut answer.output, alloc, graph, &told, asked)?;
-        return Ok(answer);
-    }
+    let paths = paths_to_reported(alloc, graph, &told, asked)?;
     let reported = Reported {
         graph,
         told: &told,
         asked,
+        paths: &paths,
     };
+    if asked.json {
+        reported.push_objects(&mut answer.output, alloc)?;
+        return Ok(answer);
+    }
     reported.push_groups(&mut answer.output, alloc)?;
     let line = counts_line(alloc, graph, &told, &subjects)?;
     push(&mut answer.errors, line.as_str())?;
@@ -309,22 +281,6 @@ fn messages_on(
     Ok(messages)
 }
 
-/// Appends a line of JSON for each reported package.
-fn push_objects<'a>(
-    text: &mut String,
-    alloc: Global,
-    graph: &Graph<'a>,
-    told: &[Told],
-    asked: &Asked<'a>,
-) -> Result<(), AllocError> {
-    for one in told {
-        if let Some(index) = graph.order.get(one.place) {
-            push_object(text, alloc, graph, *index, &one.finding, asked)?;
-        }
-    }
-    Ok(())
-}
-
 /// Returns for each package of a graph what an audit reports of its licence.
 pub fn reported_in(
     alloc: Global,
@@ -355,53 +311,4 @@ fn finding_text(finding: &Finding) -> &'static str {
         Finding::Missing => "missing",
         Finding::Refused(_) => "refused",
     }
-}
-
-/// The message of a refused licence, and the span of its error in bytes.
-type Fault = (Option<String>, Option<(usize, usize)>);
-
-/// Returns the message and the span of a refused licence. Both are `None` for other findings.
-fn fault_of(alloc: Global, finding: &Finding) -> Result<Fault, AllocError> {
-    match finding {
-        Finding::Refused(error) => {
-            let message = fault_message(alloc, error)?;
-            Ok((Some(message), Some((error.span.start, error.span.end))))
-        }
-        Finding::NotAllowed(_) | Finding::Missing => Ok((None, None)),
-    }
-}
-
-/// Appends the line of JSON for a reported package.
-fn push_object<'a>(
-    text: &mut String,
-    alloc: Global,
-    graph: &Graph<'a>,
-    index: usize,
-    finding: &Finding,
-    asked: &Asked<'a>,
-) -> Result<(), AllocError> {
-    let Some(described) = graph.described(index) else {
-        return Ok(());
-    };
-    let built = graph.built(index, asked);
-    let targets = built.targets();
-    let (message, span) = fault_of(alloc, finding)?;
-    let expression = match finding {
-        Finding::NotAllowed(expression) => Some(format!(in alloc; "{expression}")?),
-        Finding::Missing | Finding::Refused(_) => None,
-    };
-    let line = LicenceLine {
-        package: name_and_version(alloc, described)?,
-        id: described.id,
-        license: described.license,
-        expression,
-        license_file: described.license_file,
-        targets: asked.count_of(targets),
-        at: asked.at(alloc, targets)?,
-        side: built.sides().word(),
-        finding: Reason::of(finding, described).word(),
-        message,
-        span,
-    };
-    json_lines::push_spaced_line(text, alloc, &line)
 }
