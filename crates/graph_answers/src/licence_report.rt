@@ -155,8 +155,8 @@ impl<'r, 'a> Reported<'r, 'a> {
         push(text, "\n")
     }
 
-    /// Appends the line of a package behind a text, that of a dependency path to it, and the error of its licence if
-    /// that is no expression.
+    /// Appends the line of a package behind a text, the error of its licence if that is no expression, and a dependency
+    /// path to the package.
     fn push_package(
         &self,
         text: &mut String,
@@ -173,9 +173,9 @@ impl<'r, 'a> Reported<'r, 'a> {
         let note = built.sides().note();
         let line = format!(in alloc; "{start}{package}{note}, {targets}\n")?;
         push(text, line.as_str())?;
+        push(text, self.error_lines(alloc, place)?.as_str())?;
         let indent = if start == INDENT { "        " } else { INDENT };
-        self.push_path(text, alloc, indent, index)?;
-        push(text, self.error_lines(alloc, place)?.as_str())
+        self.push_path(text, alloc, indent, index)
     }
 
     /// Returns the targets on which some of the packages are in the build.
