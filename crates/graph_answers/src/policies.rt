@@ -7,6 +7,7 @@ use key_answers::answer::Refusal;
 use known_targets::{KnownTarget, RUSTC_VERSION};
 use licence_audits::PackageSpec;
 use licence_policies::{GraphTable, LicenceTable, Policy, PolicySource};
+use manifest_lints_findings::nearest_target;
 use std::alloc::{AllocError, Global};
 use std::mem;
 
@@ -38,8 +39,12 @@ fn unknown_targets(
     for (name, at) in &graph.targets {
         if KnownTarget::by_name(name.as_str()).is_none() {
             let shown = shown_start(alloc, name.as_str())?;
+            let meant = match nearest_target(alloc, name.as_str())? {
+                Some(meant) => format!(in alloc; "; did you mean `{meant}`?")?,
+                None => String::new(alloc),
+            };
             let message = format!(in alloc;
-                "no target that rustc {RUSTC_VERSION} knows is named `{shown}`"
+                "no target that rustc {RUSTC_VERSION} knows is named `{shown}`{meant}"
             )?;
             let rendered = source.report(alloc, Weight::Error, *at, message)?;
             text.push_str(rendered.as_str())?;
