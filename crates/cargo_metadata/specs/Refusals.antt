@@ -2,8 +2,8 @@
 use Rattle.std.specs.Prelude.{◌<◌, ℕ, Bool, true, false, List, Option, Some, None, length, Contains}
 use Rattle.std.specs.List.{slice_index_or}
 use Rattle.std.specs.Borrow.{Bor}
-use Rattle.cargo_platform.specs.Errors.{orig_of, fault_in}
-use Rattle.cargo_platform.specs.Platforms.{IsRefusedCondition}
+use Rattle.cargo_platform.specs.Errors.{orig_of, fault_in, span_in}
+use Rattle.cargo_platform.specs.Platforms.{IsRefusedConditionAt}
 use Rattle.cargo_platform.specs.declared.error.ParseError.{ParseError}
 use Rattle.cargo_metadata.specs.declared.metadata.Metadata.{Metadata}
 use Rattle.cargo_metadata.specs.declared.nodes.Node.{Node}
@@ -38,10 +38,10 @@ pub record IsNoNode (m : Metadata) (i : ℕ) : Type 0 where
   pub inside : i < length m.members.items
   pub none : Contains (node_ids m.nodes.items) (id_at (member_ids m.members.items) i) → ⊥
 
--- a condition that is rejected, with its error
+-- a condition that is rejected, with its error: the text, the fault and the span
 abbrev pub IsRefusedBy : ParseError → Option (Bor (List ℕ)) → Type 0
 IsRefusedBy e None = ⊥
-IsRefusedBy e (Some text) = IsRefusedCondition text.now (orig_of e) (fault_in e)
+IsRefusedBy e (Some text) = IsRefusedConditionAt text.now (orig_of e) (fault_in e) (span_in e)
 
 pub record HasCondition (nodes : List (List ℕ)) (i : ℕ) (e : ParseError) (d : Written) : Type 0 where
   pub names : Contains nodes d.on.now

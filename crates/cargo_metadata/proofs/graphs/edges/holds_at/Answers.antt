@@ -1,0 +1,6 @@
+use Rattle.cargo_metadata.proofs.graphs.edges.holds_at.Goals as goal
+
+pub returns-in-Err-Parse : goal.returns-in-Err-Parse
+returns-in-Err-Parse c =
+    let read = rw c.in-Err-Parse.field-0-is at c.in-Err-Parse.ensures in
+    rw c.in-Err-Parse.field-0-is read.span
