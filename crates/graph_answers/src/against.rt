@@ -484,6 +484,33 @@ fn push_change(
     push_row(text, &row)
 }
 
+/// Returns the names of the members of the workspace.
+fn member_names<'d>(alloc: Global, graph: &Graph<'d>) -> Result<Vec<&'d str>, AllocError> {
+    let mut names = Vec::new(alloc);
+    for index in &graph.order {
+        match (graph.linked.packages.get(*index), graph.described(*index)) {
+            (Some(package), Some(described)) if package.is_root => names.push(described.name)?,
+            _ => {}
+        }
+    }
+    Ok(names)
+}
+
+/// The warning for outputs without a common member.
+const OTHERS: &str =
+    "warning: no member of the workspace is in both files; are they of the same workspace?\n";
+
+/// Returns whether a member of the old workspace has the name of a member of the new one.
+fn have_common_member(alloc: Global, old: &Graph<'_>, new: &Graph<'_>) -> Result<bool, AllocError> {
+    let names = member_names(alloc, old)?;
+    for name in &member_names(alloc, new)? {
+        if has_text(&names, name) {
+            return Ok(true);
+        }
+    }
+    Ok(false)
+}
+
 /// Returns the output of `--against`: each package that is new, gone or changed, sorted by name and version. The status
 /// says whether there is a change of one of the kinds in `failing`.
 pub fn show_changes<'d>(
@@ -494,6 +521,9 @@ pub fn show_changes<'d>(
     failing: ChangeKinds,
 ) -> Result<Answer, AllocError> {
     let mut answer = Answer::of(alloc, String::new(alloc), Status::Fine);
+    if !have_common_member(alloc, old, new)? {
+        push(&mut answer.errors, OTHERS)?;
+    }
     let has_features = new.features.is_some();
     let mut count: usize = 0;
     for pair in &pairs_of(alloc, old, new, asked)? {
