@@ -8,7 +8,7 @@ use Rattle.manifest_lints_findings.proofs.notes_and_helps.notes_on_reading.Goals
 
 pub returns-in_ok-note-in-ByCargo : goal.returns-in_ok-note-in-ByCargo
 returns-in_ok-note-in-ByCargo c =
-    let ts = cargo_words c.in-ByCargo.marked.now ∷ [] in
+    let ts = cargo_words c.in-ByCargo.marked ∷ [] in
     subst (λ z. IfOk c.only.result (λ notes. Mentions (cargo_noted z) (said notes.items))) (sym c.in-ByCargo.is)
     (IfOk-weaker c.only.result _ (λ notes. Mentions ts (said notes.items))
     (λ notes is. one_said ts notes.items c.in_ok-note-in-ByCargo.note is c.in_ok-note-in-ByCargo.ensures) c.only.ensures)
