@@ -173,9 +173,10 @@ fn facts_of(
 /// Returns the facts that flags of rustc set for a target, by Cargo's reference ("Configuration": `build.rustflags`).
 /// The sources of flags exclude each other; the first that has flags is used:
 ///
-/// 1. the variable `CARGO_ENCODED_RUSTFLAGS`, if it is set; 2. the variable `RUSTFLAGS`, if it is set; 3. `rustflags`
-/// of all keys of `target` in the configuration that match, and `CARGO_TARGET_<triple>_RUSTFLAGS`; 4.
-/// `build.rustflags`, and `CARGO_BUILD_RUSTFLAGS`.
+/// 1. the variable `CARGO_ENCODED_RUSTFLAGS`, if it is set;
+/// 2. the variable `RUSTFLAGS`, if it is set;
+/// 3. `rustflags` of all keys of `target` in the configuration that match, and `CARGO_TARGET_<triple>_RUSTFLAGS`;
+/// 4. `build.rustflags`, and `CARGO_BUILD_RUSTFLAGS`.
 ///
 /// As Cargo does, the keys of `target` are evaluated twice: first only those that are the target's name count, and then
 /// all, with the facts that the first set.

@@ -1,5 +1,5 @@
-//! Diagnostics: what is wrong with a text of TOML and where, the level that rules give it, and how it is printed with the
-//! lines of the text, as rustc does.
+//! Diagnostics: what is wrong with a text of TOML and where, the level that rules give it, and how it is printed with
+//! the lines of the text, as rustc does.
 //!
 //! Rules have an order, and the last one that applies to a diagnostic decides. They are named as rustc's [lint
 //! levels](https://doc.rust-lang.org/rustc/lints/levels.html) are, and `warnings` means, as there, all that are

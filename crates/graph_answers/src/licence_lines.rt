@@ -27,8 +27,8 @@ struct LicenceLine<'a> {
     targets: usize,
     /// The selected targets on which the package is in the build.
     at: At<'a>,
-    /// The ids of the packages on a shortest dependency path from a root to this package, on the first of these targets.
-    /// Null if features are resolved, and they do not use this path.
+    /// The ids of the packages on a shortest dependency path from a root to this package, on the first of these
+    /// targets. Null if features are resolved, and they do not use this path.
     path: Option<Vec<&'a str>>,
     /// The sides for which the package is built. One of `target`, `host` and `both`.
     side: Option<&'static str>,
