@@ -26,21 +26,21 @@ use Rattle.cargo_features.proofs.Numbering.{number_fits, known_below, same_claim
 
 -- the default where nothing was read
 abbrev pub no_step : Step
-no_step = record { first = claim.Asked; second = claim.Asked; to = claim.Asked; condition = Always }
+no_step = record { first = claim.Requested; second = claim.Requested; to = claim.Requested; condition = Always }
 
 abbrev no_rule : Rule
 no_rule = record { first = 0; second = 0; to = 0; holds = record { words = [] } }
 
 module _ (build : Build) (packages : List Package) (sets : List TargetSet) (rules : List Rule) (k : ℕ)
     (inside : k < COUNT) (many : length sets ≡ count_of packages)
-    (first : (n : ℕ) → is_in sets n k ≡ true → n ≡ 0) (asked : is_in sets 0 k ≡ true)
+    (first : (n : ℕ) → is_in sets n k ≡ true → n ≡ 0) (requested : is_in sets 0 k ≡ true)
     (numbered : AreNumbered packages build.host (all_steps build packages) rules) where
   -- the number is that of a claim that holds
   abbrev Meant : ℕ → Type 0
   Meant r = (c : Claim) × (is_known packages c ≡ true) × (r ≡ number packages c) × Holds build packages k c
 
   meant_first : (r : ℕ) → IsTrue (is_in sets r k) → Meant r
-  meant_first r is = (claim.Asked, refl, first r is, given claim.Asked refl)
+  meant_first r is = (claim.Requested, refl, first r is, given claim.Requested refl)
 
   meant_on : (a b r : ℕ) → Meant a → Meant b → Applies (length sets) rules k a b r → Meant r
   meant_on a b r (x, x_known, x_is, x_holds) (y, y_known, y_is, y_holds) applies =
@@ -84,9 +84,9 @@ module _ (build : Build) (packages : List Package) (sets : List TargetSet) (rule
   abbrev Derived : Claim → Type 0
   Derived c = (is_known packages c ≡ true) × IsDerived sets rules k (number packages c)
 
-  derived_first : (c : Claim) → c ≡ claim.Asked → Derived c
+  derived_first : (c : Claim) → c ≡ claim.Requested → Derived c
   derived_first c is =
-      subst (λ (x : Claim). Derived x) (sym is) (refl, given 0 asked)
+      subst (λ (x : Claim). Derived x) (sym is) (refl, given 0 requested)
 
   derived_on : (a b c : Claim) → Derived a → Derived b → LeadsTo build packages k a b c → Derived c
   derived_on a b c one two leads =
@@ -112,5 +112,5 @@ module _ (build : Build) (packages : List Package) (sets : List TargetSet) (rule
 
   pub number_of_holds : (c : Claim) → Holds build packages k c → IsDerived sets rules k (number packages c)
   number_of_holds c here =
-      (held_through (λ c. c ≡ claim.Asked) (λ a b c. LeadsTo build packages k a b c) Derived
+      (held_through (λ c. c ≡ claim.Requested) (λ a b c. LeadsTo build packages k a b c) Derived
       derived_first derived_on c here).1

@@ -53,7 +53,7 @@ of_each {X} n f (z ∷ xs) (suc i) x y below is h =
 
 known_joined : (packages : List Package) (c : Claim) → is_known packages c ≡ true
     → is_known packages (joined c) ≡ true
-known_joined packages claim.Asked h = h
+known_joined packages claim.Requested h = h
 known_joined packages (claim.Active p from) h = h
 known_joined packages (claim.Used p from) h = h
 known_joined packages (claim.Feature p from f) h = h
@@ -198,24 +198,26 @@ module _ (followed : Kinds) (host : KnownTarget) (packages : List Package) (k : 
     root_matched : (y : Step) → Contains (root_steps Two At unit) y → Here y
     root_matched y is =
         let begins = begins_on Two s unit in
-        let active = one claim.Asked (claim.Active p s) Always in
-        let asked = flat_map (to_feature begins claim.Asked At Always) unit.asked.items in
-        let used = one claim.Asked (claim.Used p s) Always in
+        let active = one claim.Requested (claim.Active p s) Always in
+        let requested = flat_map (to_feature begins claim.Requested At Always) unit.requested.items in
+        let used = one claim.Requested (claim.Used p s) Always in
         let more : begins ≡ true → begins_on One Target unit ≡ true = begins_more Two One s unit in
-        let active_1 = when (begins_on One Target unit) (one claim.Asked (claim.Active p Target) Always) in
-        let asked_1 = flat_map (to_feature (begins_on One Target unit) claim.Asked There Always) unit.asked.items in
-        let used_1 = when (is_first_side Target unit) (one claim.Asked (claim.Used p Target) Always) in
-        from_either (when begins active ++ asked) (when (is_first_side s unit) used) y (Here y)
-        (from_either (when begins active) asked y (Here y)
-        (λ h. from_root Target y (in_left (active_1 ++ asked_1) used_1 y (in_left active_1 asked_1 y
-        (matched begins (begins_on One Target unit) active (one claim.Asked (claim.Active p Target) Always) y h more
+        let active_1 = when (begins_on One Target unit) (one claim.Requested (claim.Active p Target) Always) in
+        let requested_1 = flat_map (to_feature (begins_on One Target unit) claim.Requested There Always)
+        unit.requested.items in
+        let used_1 = when (is_first_side Target unit) (one claim.Requested (claim.Used p Target) Always) in
+        from_either (when begins active ++ requested) (when (is_first_side s unit) used) y (Here y)
+        (from_either (when begins active) requested y (Here y)
+        (λ h. from_root Target y (in_left (active_1 ++ requested_1) used_1 y (in_left active_1 requested_1 y
+        (matched begins (begins_on One Target unit) active (one claim.Requested (claim.Active p Target) Always) y h more
         refl refl refl (λ x. x)))))
-        (λ h. from_root Target y (in_left (active_1 ++ asked_1) used_1 y (in_right active_1 asked_1 y
-        (matched_features begins (begins_on One Target unit) claim.Asked claim.Asked At Always Always unit.asked.items y
+        (λ h. from_root Target y (in_left (active_1 ++ requested_1) used_1 y (in_right active_1 requested_1 y
+        (matched_features begins (begins_on One Target unit) claim.Requested claim.Requested At Always Always
+        unit.requested.items y
         more refl (λ x. x) h)))))
         (λ h. from_root s y (in_right
-        (when (begins_on One s unit) (one claim.Asked (claim.Active p s) Always)
-        ++ flat_map (to_feature (begins_on One s unit) claim.Asked At Always) unit.asked.items)
+        (when (begins_on One s unit) (one claim.Requested (claim.Active p s) Always)
+        ++ flat_map (to_feature (begins_on One s unit) claim.Requested At Always) unit.requested.items)
         (when (is_first_side s unit) used) y
         (matched (is_first_side s unit) (is_first_side s unit) used used y h (λ x. x) refl refl refl (λ x. x))))
         is
@@ -392,7 +394,7 @@ module _ (followed : Kinds) (host : KnownTarget) (packages : List Package) (k : 
 
   pub holds_joined : (c : Claim) → Holds Two packages k c → Holds One packages k (joined c)
   holds_joined =
-      held_through (λ c. c ≡ claim.Asked) (λ a b c. LeadsTo Two packages k a b c)
+      held_through (λ c. c ≡ claim.Requested) (λ a b c. LeadsTo Two packages k a b c)
       (λ c. Holds One packages k (joined c))
       (λ m is. given (joined m) (ap (λ (x : Claim). joined x) is))
       (λ a b m one_holds two_holds leads.

@@ -8,4 +8,4 @@ pub mod Pushing
 pub mod Within
 pub mod Using
 pub mod Joined
-pub mod Asking
+pub mod Requests

@@ -140,12 +140,12 @@ same_fact packages p q i j from to p_in q_in i_in j_in e =
 
 -- a claim on a package: which package, side and fact
 data Fact (packages : List Package) (c : Claim) : Type 0 where
-  asked : c ≡ claim.Asked → Fact packages c
+  requested : c ≡ claim.Requested → Fact packages c
   on : (p i : ℕ) (from : Side) → p < length packages → i < facts_of packages p
       → place_of packages c ≡ first_of packages p + node_of i from → Fact packages c
 
 fact_of : (packages : List Package) (c : Claim) → is_known packages c ≡ true → Fact packages c
-fact_of packages claim.Asked known = asked refl
+fact_of packages claim.Requested known = requested refl
 fact_of packages (claim.Active p from) known = on p 0 from (ltb-true p (length packages) known) (omega arith) refl
 fact_of packages (claim.Used p from) known = on p 1 from (ltb-true p (length packages) known) (omega arith) refl
 fact_of packages (claim.Feature p from f) known =
@@ -159,7 +159,7 @@ pub place_fits : (packages : List Package) (c : Claim) → is_known packages c �
     → place_of packages c < count_of packages
 place_fits packages c known =
     elim (fact_of packages c known) as (λ _. place_of packages c < count_of packages) [
-      | asked is ↦ subst (λ (x : Claim). place_of packages x < count_of packages) (sym is) (omega arith)
+      | requested is ↦ subst (λ (x : Claim). place_of packages x < count_of packages) (sym is) (omega arith)
       | on p i from p_in i_in is ↦
           let fits = within packages p i from p_in i_in in
           omega (arith, is, fits)
@@ -168,15 +168,15 @@ place_fits packages c known =
 -- claims with one number are one
 pub injective : (packages : List Package) (a b : Claim) → is_known packages a ≡ true → is_known packages b ≡ true
     → place_of packages a ≡ place_of packages b → a ≡ b
-injective packages claim.Asked claim.Asked h k e = refl
-injective packages claim.Asked (claim.Active q to) h k e = absurd (omega (arith, e))
-injective packages claim.Asked (claim.Used q to) h k e = absurd (omega (arith, e))
-injective packages claim.Asked (claim.Feature q to j) h k e = absurd (omega (arith, e))
-injective packages claim.Asked (claim.Dependency q to j) h k e = absurd (omega (arith, e))
-injective packages (claim.Active p from) claim.Asked h k e = absurd (omega (arith, e))
-injective packages (claim.Used p from) claim.Asked h k e = absurd (omega (arith, e))
-injective packages (claim.Feature p from i) claim.Asked h k e = absurd (omega (arith, e))
-injective packages (claim.Dependency p from i) claim.Asked h k e = absurd (omega (arith, e))
+injective packages claim.Requested claim.Requested h k e = refl
+injective packages claim.Requested (claim.Active q to) h k e = absurd (omega (arith, e))
+injective packages claim.Requested (claim.Used q to) h k e = absurd (omega (arith, e))
+injective packages claim.Requested (claim.Feature q to j) h k e = absurd (omega (arith, e))
+injective packages claim.Requested (claim.Dependency q to j) h k e = absurd (omega (arith, e))
+injective packages (claim.Active p from) claim.Requested h k e = absurd (omega (arith, e))
+injective packages (claim.Used p from) claim.Requested h k e = absurd (omega (arith, e))
+injective packages (claim.Feature p from i) claim.Requested h k e = absurd (omega (arith, e))
+injective packages (claim.Dependency p from i) claim.Requested h k e = absurd (omega (arith, e))
 injective packages (claim.Active p from) (claim.Active q to) h k e =
     let a_in : p < length packages = ltb-true p (length packages) h in
     let a_fact : 0 < facts_of packages p = omega arith in

@@ -60,10 +60,10 @@ on_target true h = absurd (false≢true h)
 on_target false h = refl
 
 -- where a condition holds
-where_asked : (host : KnownTarget) (k : ℕ) (b : Bool) (set : TargetSet)
+where_requested : (host : KnownTarget) (k : ℕ) (b : Bool) (set : TargetSet)
     → holds_at host k (condition b set) ≡ is_member set (cond b (place host) k)
-where_asked host k true set = refl
-where_asked host k false set = refl
+where_requested host k true set = refl
+where_requested host k false set = refl
 
 first_is : (s : Side) (unit : Package) → is_first_side s unit ≡ true
     → (unit.is_root ≡ true) × (s ≡ graphs.side unit.is_macro)
@@ -78,7 +78,7 @@ module _ (build : Build) (packages : List Package) (graph : List units.Package) 
     (over : IsGraphOf packages graph) where
   -- what is claimed of a package that is used
   abbrev Is : Claim → Type 0
-  Is claim.Asked = Unit {0}
+  Is claim.Requested = Unit {0}
   Is (claim.Active p from) = Unit {0}
   Is (claim.Used p from) = graphs.IsThereOn graph build.kinds (Some build.host) k (p, from)
   Is (claim.Feature p from f) = Unit {0}
@@ -111,7 +111,7 @@ module _ (build : Build) (packages : List Package) (graph : List units.Package) 
       → Contains (root_steps build at unit) y → Keeps y
   of_root at unit is y =
       of_either _ _ y
-      (of_either _ _ y (of_when _ _ y (λ _ h a b. tt)) (of_features _ claim.Asked at _ unit.asked.items y))
+      (of_either _ _ y (of_when _ _ y (λ _ h a b. tt)) (of_features _ claim.Requested at _ unit.requested.items y))
       (of_when (is_first_side at.side unit) _ y (λ first h a b.
       let f = first_is at.side unit first in
       starts (at.index, at.side) (record {
@@ -125,7 +125,7 @@ module _ (build : Build) (packages : List Package) (graph : List units.Package) 
       of_when (is_followed build.kinds unit.is_root d.kind) _ y (λ followed h here b.
       let root = ap (λ (r : Bool). is_followed build.kinds r has.edge.kind) is.root in
       let kind = ap (λ (x : Kind). is_followed build.kinds unit.is_root x) has.kind in
-      let asked = ap (λ (x : Kind). graphs.is_of_host at.side x) has.kind in
+      let requested = ap (λ (x : Kind). graphs.is_of_host at.side x) has.kind in
       goes_on (at.index, at.side) (d.to, (way packages at.side d).side) here (record {
         depends = record {
           dependency = has.edge;
@@ -136,11 +136,11 @@ module _ (build : Build) (packages : List Package) (graph : List units.Package) 
         holds =
             ap (λ (s : TargetSet). is_member s
             (cond (graphs.is_of_host at.side has.edge.kind) (place build.host) k)) has.holds
-            ∙ ap (λ (x : Bool). is_member d.holds (cond x (place build.host) k)) asked
-            ∙ sym (where_asked build.host k (graphs.is_of_host at.side d.kind) d.holds)
+            ∙ ap (λ (x : Bool). is_member d.holds (cond x (place build.host) k)) requested
+            ∙ sym (where_requested build.host k (graphs.is_of_host at.side d.kind) d.holds)
             ∙ h;
         on =
-            ap (λ (x : Bool). graphs.side (x || is_macro packages d.to)) (sym asked)
+            ap (λ (x : Bool). graphs.side (x || is_macro packages d.to)) (sym requested)
             ∙ ap (λ (x : Bool). graphs.side (graphs.is_of_host at.side has.edge.kind || x)) (sym (over.macros d.to));
       }))
 
@@ -233,7 +233,7 @@ module _ (build : Build) (packages : List Package) (graph : List units.Package) 
 
   pub within : (c : Claim) → Holds build packages k c → Is c
   within c =
-      held_through (λ c. c ≡ claim.Asked) (λ a b c. LeadsTo build packages k a b c) Is
+      held_through (λ c. c ≡ claim.Requested) (λ a b c. LeadsTo build packages k a b c) Is
       (λ m is. subst (λ (x : Claim). Is x) (sym is) tt)
       (λ a b m one two leads.
       subst (λ (x : Claim). Is x) leads.to

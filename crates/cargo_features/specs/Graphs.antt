@@ -56,7 +56,7 @@ resolver_2 kinds host =
 
 -- the claim if features are not kept apart by side
 abbrev pub joined : Claim → Claim
-joined claim.Asked = claim.Asked
+joined claim.Requested = claim.Requested
 joined (claim.Active p from) = claim.Active p Target
 joined (claim.Used p from) = claim.Used p from
 joined (claim.Feature p from f) = claim.Feature p Target f

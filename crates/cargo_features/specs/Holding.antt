@@ -19,7 +19,7 @@ dependency_count packages p = slice_index_or (map (λ p. length p.dependencies.i
 
 -- true if a claim is about a package, feature or dependency that exists
 abbrev pub is_known : List Package → Claim → Bool
-is_known packages claim.Asked = true
+is_known packages claim.Requested = true
 is_known packages (claim.Active p from) = nat_lt p (length packages)
 is_known packages (claim.Used p from) = nat_lt p (length packages)
 is_known packages (claim.Feature p from f) = nat_lt f (feature_count packages p)
@@ -37,7 +37,7 @@ pub record LeadsTo (build : Build) (packages : List Package) (k : ℕ) (a b c : 
 
 -- the claim holds on the target k: the build is requested, and steps lead from that to it
 abbrev pub Holds : Build → List Package → ℕ → Claim → Type 0
-Holds build packages k c = Follows (λ c. c ≡ claim.Asked) (λ a b c. LeadsTo build packages k a b c) c
+Holds build packages k c = Follows (λ c. c ≡ claim.Requested) (λ a b c. LeadsTo build packages k a b c) c
 
 -- the build uses the package for the target k, on either side
 abbrev pub IsUsed : Build → List Package → ℕ → ℕ → Type 0

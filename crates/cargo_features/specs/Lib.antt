@@ -7,4 +7,4 @@ pub mod Holding
 pub mod Inside
 pub mod Resolved
 pub mod Graphs
-pub mod Asking
+pub mod Requests

@@ -54,9 +54,9 @@ is_first_side Host unit = unit.is_root && unit.is_macro
 -- it is active, with the features that are requested of it, and it is used
 abbrev pub root_steps : Build → Place → Package → List Step
 root_steps build at unit =
-    when (begins_on build at.side unit) (one claim.Asked (claim.Active at.index at.side) Always)
-    ++ flat_map (to_feature (begins_on build at.side unit) claim.Asked at Always) unit.asked.items
-    ++ when (is_first_side at.side unit) (one claim.Asked (claim.Used at.index at.side) Always)
+    when (begins_on build at.side unit) (one claim.Requested (claim.Active at.index at.side) Always)
+    ++ flat_map (to_feature (begins_on build at.side unit) claim.Requested at Always) unit.requested.items
+    ++ when (is_first_side at.side unit) (one claim.Requested (claim.Used at.index at.side) Always)
 
 -- ---- a dependency
 

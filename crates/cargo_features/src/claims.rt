@@ -14,7 +14,7 @@ use std::alloc::AllocError;
 #[derive(Clone, Copy, Drop)]
 pub enum Claim {
     /// The build is requested.
-    Asked,
+    Requested,
     /// The package is active: the feature resolver reaches it.
     Active(usize, Side),
     /// The build uses the package.

@@ -3,7 +3,7 @@
 ghost use Rattle.std.specs.Prelude.{ℕ, Some};
 ghost use Rattle.package_graphs.specs.Packages.{BuiltFor, IsThereOn, KindSet, HostTarget};
 ghost use Rattle.cargo_features.specs.Graphs.{Declared, Graph, Built, IsGraphOf, resolver_1, resolver_2, joined};
-ghost use Rattle.cargo_features.specs.Asking.{AskMore};
+ghost use Rattle.cargo_features.specs.Requests.{AskMore};
 ghost use Rattle.cargo_features.specs.Holding.{Holds};
 ghost use Rattle.cargo_features.specs.declared.claims.Claim.{Claim};
 ghost use Rattle.cargo_features.specs.declared.claims.Claim.TheVariants as claim;

@@ -64,7 +64,7 @@ impl Numbers {
         ensures { AreNumbers packages.now self.now → result ≡ number packages.now claim }
     {
         match claim {
-            Claim::Asked => 0,
+            Claim::Requested => 0,
             Claim::Active(index, side) => self.at(index, side, 0),
             Claim::Used(index, side) => self.at(index, side, 1),
             Claim::Feature(index, side, feature) => {

@@ -44,5 +44,5 @@ pub struct Package {
     /// The list of each of its features.
     pub features: Vec<Vec<Member>>,
     /// The features that are requested of the package if it is a root.
-    pub asked: Vec<usize>,
+    pub requested: Vec<usize>,
 }

@@ -66,18 +66,18 @@ impl Build {
         add(
             steps,
             begins,
-            Step::from_one(Claim::Asked, active, Condition::Always),
+            Step::from_one(Claim::Requested, active, Condition::Always),
         )?;
         add_features(
             steps,
             begins,
-            Claim::Asked,
+            Claim::Requested,
             at,
-            &unit.asked,
+            &unit.requested,
             Condition::Always,
         )?;
         let used = Claim::Used(at.index, at.side);
-        let step = Step::from_one(Claim::Asked, used, Condition::Always);
+        let step = Step::from_one(Claim::Requested, used, Condition::Always);
         add(steps, is_first_side(at.side, unit), step)?;
         Ok(())
     }

@@ -1,5 +1,11 @@
 //! A graph of packages with what each of them declares, and the edges of declared dependencies.
 
+ghost use Rattle.std.specs.Prelude.{◌≡◌, ◌==◌, ◌↔◌, ◌++◌, cond, length, IsTrue, IfOk, OnOk, List};
+ghost use Rattle.std.specs.Option.{option_copied};
+ghost use Rattle.declared_features.specs.Manifests.{manifest_at};
+ghost use Rattle.declared_features.specs.Rows.{EdgeKind, kinds_by, kinds_at, links_at, AreRowsOf};
+ghost use Rattle.declared_features.specs.Edges.{AreSame, IsLike, IsOf, name_at, code_name};
+
 use crate::manifests::{Declared, Manifest, Refusal, read_manifests};
 use crate::places::Places;
 use cargo_metadata::graphs::Linked;
@@ -82,8 +88,18 @@ impl<'a> Declarations<'a> {
         }
     }
 
+    /// Returns the number of nodes.
+    pub fn node_count(&self) -> usize
+        ensures { result ≡ length self.now.places.items }
+    {
+        self.places.len()
+    }
+
     /// Returns what the package of a node declares.
-    pub fn manifest(&self, node: usize) -> Option<&Manifest<'a>> {
+    pub fn manifest(&self, node: usize) -> Option<&Manifest<'a>>
+        // The manifest is that of the package of the node.
+        ensures { option_copied result ≡ manifest_at self.now node }
+    {
         self.manifests.get(*self.places.get(node)?)
     }
 
@@ -116,9 +132,37 @@ pub struct Row<'m, 'a> {
 
 impl<'m, 'a> Row<'m, 'a> {
     /// Returns whether the kind and the condition are those of a declared dependency.
-    fn is_like(&self, declared: &Declared<'a>) -> bool {
+    fn is_like(&self, declared: &Declared<'a>) -> bool
+        ensures { IsTrue result ↔ IsLike self.now declared.now }
+    {
         declared.kind == self.kind.kind && declared.condition == self.kind.condition
     }
+}
+
+/// Appends a row for each kind of an edge, as far as there are links.
+fn push_rows<'m, 'a>(
+    edge: &'m Edge<'a>,
+    links: &[LinkedEdge],
+    rows: &mut Vec<Row<'m, 'a>>,
+) -> Result<(), AllocError>
+    ensures { OnOk result ((kinds : List EdgeKind) → AreRowsOf kinds links.now rows.old.items
+        → AreRowsOf (kinds ++ kinds_by edge.now) links.now rows.new.items) }
+{
+    'kinds: for i in 0..edge.kinds.len() {
+        let place = rows.len();
+        if place >= links.len() {
+            return Ok(());
+        }
+        let kind = edge.kinds[i];
+        let linked = links[place];
+        rows.push(Row {
+            edge,
+            kind,
+            linked,
+            place,
+        })?;
+    }
+    Ok(())
 }
 
 /// Returns the dependencies of a node, in the order of the document.
@@ -127,38 +171,57 @@ pub fn rows_of<'m, 'a>(
     metadata: &'m Metadata<'a>,
     linked: &Linked<'a>,
     node: usize,
-) -> Result<Vec<Row<'m, 'a>>, AllocError> {
+) -> Result<Vec<Row<'m, 'a>>, AllocError>
+    // Each kind of each dependency of the node has a row, in order, with the edge that the graph has for it.
+    ensures { IfOk result
+        (λ rows. AreRowsOf (kinds_at metadata.now node) (links_at linked.now node) rows.items) }
+{
     let mut rows = Vec::new(alloc);
-    let (Some(written), Some(unit)) = (metadata.nodes.get(node), linked.packages.get(node)) else {
+    if node >= metadata.nodes.len() {
         return Ok(rows);
-    };
-    for edge in &written.dependencies {
-        for kind in &edge.kinds {
-            let place = rows.len();
-            if let Some(linked) = unit.dependencies.get(place) {
-                rows.push(Row {
-                    edge,
-                    kind: *kind,
-                    linked: *linked,
-                    place,
-                })?;
-            }
-        }
+    }
+    if node >= linked.packages.len() {
+        return Ok(rows);
+    }
+    let written = &metadata.nodes[node];
+    let unit = &linked.packages[node];
+    'edges: for i in 0..written.dependencies.len() {
+        push_rows(&written.dependencies[i], &unit.dependencies, &mut rows)?;
     }
     Ok(rows)
 }
 
+/// Returns a character of a name as it is in code: `_` for `-`.
+fn underscored(character: u8) -> u8
+    ensures { result ≡ cond (character == 45) 95 character }
+{
+    if character == b'-' { b'_' } else { character }
+}
+
 /// Returns whether two names are equal if `-` and `_` are taken as the same character.
-fn are_same(name: &str, other: &str) -> bool {
-    name.len() == other.len()
-        && name.bytes().zip(other.bytes()).all(|(a, b)| {
-            a == b || matches!((a, b), (b'-', b'_') | (b'_', b'-'))
-        })
+fn are_same(name: &str, other: &str) -> bool
+    // The names are the same with each `-` as `_`.
+    ensures { IsTrue result ↔ AreSame name.now other.now }
+{
+    let left = name.as_bytes();
+    let right = other.as_bytes();
+    if left.len() != right.len() {
+        return false;
+    }
+    'characters: for i in 0..left.len() {
+        if underscored(left[i]) != underscored(right[i]) {
+            return false;
+        }
+    }
+    true
 }
 
 impl<'m, 'a> Declaring<'m, 'a> {
     /// Returns the name of the package of a node, or the empty text if there is none.
-    pub fn name(&self, node: usize) -> &'a str {
+    pub fn name(&self, node: usize) -> &'a str
+        // The name is that of the package of the node.
+        ensures { result.now ≡ name_at self.now node }
+    {
         match self.linked.described.get(node) {
             Some(described) => described.name,
             None => "",
@@ -168,23 +231,34 @@ impl<'m, 'a> Declaring<'m, 'a> {
     /// Returns whether a dependency of a node is a declared one: it has its kind and condition, leads to a package with
     /// the declared name, and has the name by which code refers to it. An edge from a package to itself has the
     /// library's name.
-    pub fn is_of(&self, node: usize, row: &Row<'_, 'a>, declared: &Declared<'a>) -> bool {
+    pub fn is_of(&self, node: usize, row: &Row<'_, 'a>, declared: &Declared<'a>) -> bool
+        // The result is true exactly if the edge has the kind and the condition of the declared dependency, leads to a
+        // package of its name, and has the name that code uses: as the dependency is renamed, or else the library's
+        // name, also in a package that depends on itself. `-` counts as `_`. An edge without a name may have any.
+        ensures { IsTrue result ↔ IsOf self.now node row.now declared.now }
+    {
         let to = row.linked.to;
-        let name = self.name(to);
-        if !row.is_like(declared) || name != declared.name {
+        if !row.is_like(declared) || self.name(to) != declared.name {
             return false;
         }
-        let library = match self.declared.manifest(to) {
-            Some(manifest) => manifest.library.unwrap_or(name),
-            None => name,
-        };
-        let called = match declared.rename {
-            Some(rename) if node != to => rename,
-            _ => library,
-        };
         match row.edge.name {
-            Some(name) => are_same(name, called),
+            Some(name) => are_same(name, self.code_name(node, to, declared)),
             None => true,
+        }
+    }
+
+    /// Returns the name by which the code of a node refers to a declared dependency on another one.
+    fn code_name(&self, node: usize, to: usize, declared: &Declared<'a>) -> &'a str
+        ensures { result.now ≡ code_name self.now node to declared.now }
+    {
+        if node != to {
+            if let Some(rename) = declared.rename {
+                return rename;
+            }
+        }
+        match self.declared.manifest(to) {
+            Some(manifest) => manifest.library.unwrap_or(self.name(to)),
+            None => self.name(to),
         }
     }
 }

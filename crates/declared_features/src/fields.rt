@@ -1,5 +1,12 @@
 //! The values of an object's fields, and the types that are expected there.
 
+ghost use Rattle.std.specs.Prelude.{◌≡◌, map, option_map, MatchResult, Some, None, codes};
+ghost use Rattle.std.specs.Option.{option_copied};
+ghost use Rattle.serde_json.specs.View.{view};
+ghost use Rattle.cargo_metadata.specs.Fields.{field_at, text_at, list_at};
+ghost use Rattle.cargo_metadata.specs.Nodes.{kind_at, condition_at};
+ghost use Rattle.declared_features.specs.Documents.{flag_at, IsAt};
+
 use cargo_metadata::Kind;
 use serde_json::Value;
 use std::fmt::{self, Display, Formatter, Write};
@@ -26,75 +33,126 @@ pub struct Wrong {
     pub wanted: Wanted,
 }
 
+/// Returns the value of a field, or `None` if there is none.
+fn field_at<'a>(value: &'a Value, field: &str) -> Option<&'a Value>
+    ensures { option_map (λ v. view v.now) result ≡ field_at field.now (view value.now) }
+{
+    value.get(field)
+}
+
 /// Returns the text in a field, or `None` if it contains none.
-pub fn text_at<'a>(value: &'a Value, field: &str) -> Option<&'a str> {
-    value.get(field)?.as_str()
+pub fn text_at<'a>(value: &'a Value, field: &str) -> Option<&'a str>
+    // The result is the text in the field, if it contains one.
+    ensures { option_map (λ s. s.now) result ≡ text_at field.now (view value.now) }
+{
+    match field_at(value, field) {
+        Some(found) => found.as_str(),
+        None => None,
+    }
 }
 
 /// Returns the list in a field, or `None` if it contains none.
-pub fn list_at<'a>(value: &'a Value, field: &str) -> Option<&'a [Value]> {
-    match value.get(field)?.as_array() {
-        Some(items) => Some(items.as_slice()),
+pub fn list_at<'a>(value: &'a Value, field: &str) -> Option<&'a [Value]>
+    // The result is the list in the field, if it contains one.
+    ensures { option_map (λ vs. map view vs.now) result ≡ list_at field.now (view value.now) }
+{
+    match field_at(value, field) {
+        Some(found) => match found.as_array() {
+            Some(items) => Some(items.as_slice()),
+            None => None,
+        },
         None => None,
     }
 }
 
 /// Returns the text in a field. Fails if it contains none.
-pub fn wanted_text<'a>(value: &'a Value, field: &'static str) -> Result<&'a str, Wrong> {
-    let wanted = Wanted::Text;
-    text_at(value, field).ok_or(Wrong { field, wanted })
+pub fn wanted_text<'a>(value: &'a Value, field: &'static str) -> Result<&'a str, Wrong>
+    ensures { MatchResult result (λ s. text_at field.now (view value.now) ≡ Some s.now)
+        (λ wrong. (text_at field.now (view value.now) ≡ None) × IsAt field.now Wanted.Text wrong) }
+{
+    match text_at(value, field) {
+        Some(text) => Ok(text),
+        None => Err(Wrong {
+            field,
+            wanted: Wanted::Text,
+        }),
+    }
 }
 
 /// Returns the list in a field. Fails if it contains none.
-pub fn wanted_list<'a>(value: &'a Value, field: &'static str) -> Result<&'a [Value], Wrong> {
-    let wanted = Wanted::List;
-    list_at(value, field).ok_or(Wrong { field, wanted })
+pub fn wanted_list<'a>(value: &'a Value, field: &'static str) -> Result<&'a [Value], Wrong>
+    ensures { MatchResult result (λ vs. list_at field.now (view value.now) ≡ Some (map view vs.now))
+        (λ wrong. (list_at field.now (view value.now) ≡ None) × IsAt field.now Wanted.List wrong) }
+{
+    match list_at(value, field) {
+        Some(items) => Ok(items),
+        None => Err(Wrong {
+            field,
+            wanted: Wanted::List,
+        }),
+    }
 }
 
 /// Returns the boolean in a field. Fails if it contains none.
-pub fn wanted_flag(value: &Value, field: &'static str) -> Result<bool, Wrong> {
+pub fn wanted_flag(value: &Value, field: &'static str) -> Result<bool, Wrong>
+    ensures { MatchResult result (λ b. flag_at field.now (view value.now) ≡ Some b)
+        (λ wrong. (flag_at field.now (view value.now) ≡ None) × IsAt field.now Wanted.Flag wrong) }
+{
     let wrong = Wrong {
         field,
         wanted: Wanted::Flag,
     };
-    match value.get(field) {
-        Some(found) => found.as_bool().ok_or(wrong),
+    let found = match field_at(value, field) {
+        Some(found) => found,
+        None => return Err(wrong),
+    };
+    match found.as_bool() {
+        Some(flag) => Ok(flag),
         None => Err(wrong),
-    }
-}
-
-/// Returns the text in a field, or `None` if the field is missing or null. Fails if it contains anything else.
-fn text_or_null<'a>(value: &'a Value, field: &str) -> Result<Option<&'a str>, ()> {
-    match value.get(field) {
-        None => Ok(None),
-        Some(found) => match found.as_str() {
-            Some(text) => Ok(Some(text)),
-            None if found.is_null() => Ok(None),
-            None => Err(()),
-        },
     }
 }
 
 /// Returns the kind of a dependency: normal if the field is missing or null. Fails if it contains anything other than
 /// `build` or `dev`.
-pub fn kind_of(value: &Value) -> Result<Kind, Wrong> {
-    match text_or_null(value, "kind") {
-        Ok(None) => Ok(Kind::Normal),
-        Ok(Some("build")) => Ok(Kind::Build),
-        Ok(Some("dev")) => Ok(Kind::Dev),
-        _ => Err(Wrong {
-            field: "kind",
-            wanted: Wanted::Kind,
-        }),
+pub fn kind_of(value: &Value) -> Result<Kind, Wrong>
+    ensures { MatchResult result (λ kind. kind_at (view value.now) ≡ Some kind)
+        (λ wrong. (kind_at (view value.now) ≡ None) × IsAt (codes "kind") Wanted.Kind wrong) }
+{
+    let wrong = Wrong {
+        field: "kind",
+        wanted: Wanted::Kind,
+    };
+    let found = match field_at(value, "kind") {
+        None => return Ok(Kind::Normal),
+        Some(found) => found,
+    };
+    if found.is_null() {
+        return Ok(Kind::Normal);
+    }
+    match found.as_str() {
+        None => Err(wrong),
+        Some("build") => Ok(Kind::Build),
+        Some("dev") => Ok(Kind::Dev),
+        Some(_) => Err(wrong),
     }
 }
 
 /// Returns the condition of a dependency: `None` if the field is missing or null. Fails if it contains anything other
 /// than a text.
-pub fn condition_of<'a>(value: &'a Value) -> Result<Option<&'a str>, Wrong> {
-    match text_or_null(value, "target") {
-        Ok(condition) => Ok(condition),
-        Err(()) => Err(Wrong {
+pub fn condition_of<'a>(value: &'a Value) -> Result<Option<&'a str>, Wrong>
+    ensures { MatchResult result (λ text. condition_at (view value.now) ≡ Some (option_copied text))
+        (λ wrong. (condition_at (view value.now) ≡ None) × IsAt (codes "target") Wanted.Condition wrong) }
+{
+    let found = match field_at(value, "target") {
+        None => return Ok(None),
+        Some(found) => found,
+    };
+    if found.is_null() {
+        return Ok(None);
+    }
+    match found.as_str() {
+        Some(text) => Ok(Some(text)),
+        None => Err(Wrong {
             field: "target",
             wanted: Wanted::Condition,
         }),

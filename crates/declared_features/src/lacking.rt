@@ -1,7 +1,8 @@
 //! Declared dependencies that are on and have no edge. The document was filtered, or made with too few features.
 
 use crate::declaring::{Declarations, Declaring, rows_of};
-use crate::linking::{Asked, toml_name};
+use crate::entries::FeatureEntry;
+use crate::linking::{RequestedFeatures, toml_name};
 use crate::manifests::{Declared, Manifest};
 use cargo_features::{Claim, Resolved};
 use cargo_metadata::{Dependency as Edge, Kind, Metadata};
@@ -26,22 +27,17 @@ fn key_of<'a>(declared: &Declared<'a>) -> Key<'a> {
     ((declared.name, condition), declared.kind as u8)
 }
 
-/// Returns the dependency that a text in a feature's list turns on: `d` for `dep:d` and `d/f`, none for `d?/f`.
-fn turned_on<'a>(text: &'a str) -> Option<&'a str> {
-    if let Some(name) = text.strip_prefix("dep:") {
-        return Some(name);
-    }
-    match text.split_once('/') {
-        Some((name, _)) if !name.ends_with("?") => Some(name),
-        _ => None,
-    }
-}
-
-/// Adds the dependencies that a list of a feature turns on.
-fn add_turned_on<'a>(texts: &[&'a str], names: &mut BTreeSet<&'a str>) -> Result<(), AllocError> {
-    for text in texts {
-        if let Some(name) = turned_on(text) {
-            let _is_new = names.insert(name)?;
+/// Adds the dependencies that a list of a feature turns on: `d` for `dep:d` and `d/f`, none for `d?/f`.
+fn add_turned_on<'a>(
+    entries: &[FeatureEntry<'a>],
+    names: &mut BTreeSet<&'a str>,
+) -> Result<(), AllocError> {
+    for entry in entries {
+        match entry {
+            FeatureEntry::Dependency(name) | FeatureEntry::Strong(name, _) => {
+                let _is_new = names.insert(name)?;
+            }
+            FeatureEntry::Feature(_) | FeatureEntry::Weak(_, _) => {}
         }
     }
     Ok(())
@@ -229,7 +225,7 @@ fn newly_on<'a>(
     graph: &Declaring<'_, 'a>,
     node: usize,
     resolved: &Resolved,
-    asked: &Asked<'a>,
+    requested: &RequestedFeatures<'a>,
 ) -> Result<BTreeSet<&'a str>, AllocError> {
     let mut newly = BTreeSet::new(alloc);
     let (Some(manifest), Some(unit)) = (
@@ -239,9 +235,9 @@ fn newly_on<'a>(
         return Ok(newly);
     };
     let mut on = on_as_resolved(alloc, resolved, node, manifest)?;
-    if asked.concerns(node, unit) {
-        let texts = asked.texts(alloc, graph.name(node), node)?;
-        add_turned_on(&texts, &mut on)?;
+    if requested.concerns(node, unit) {
+        let entries = requested.entries(alloc, graph.name(node), node)?;
+        add_turned_on(&entries, &mut on)?;
     }
     let before = on_in_document(alloc, graph.document, node, manifest)?;
     for name in &on {
@@ -273,13 +269,13 @@ pub fn first_lacking<'m, 'a>(
     alloc: Global,
     graph: &Declaring<'m, 'a>,
     resolved: &Resolved,
-    asked: &Asked<'a>,
+    requested: &RequestedFeatures<'a>,
 ) -> Result<Option<Lacking<'m, 'a>>, AllocError> {
     for node in 0..graph.metadata.nodes.len() {
         let Some(manifest) = graph.declared.manifest(node) else {
             continue;
         };
-        let newly = newly_on(alloc, graph, node, resolved, asked)?;
+        let newly = newly_on(alloc, graph, node, resolved, requested)?;
         for declared in &manifest.dependencies {
             if declared.is_optional
                 && newly.contains(&toml_name(declared))

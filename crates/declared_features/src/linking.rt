@@ -1,16 +1,26 @@
 //! The declarations of packages, translated into the input of the feature resolver: names become indexes.
 
-use crate::asked::starter_of;
-use crate::declaring::{Declaring, Row, rows_of};
+ghost use Rattle.std.specs.Prelude.{◌≡◌, ◌<◌, ◌↔◌, ℕ, List, Some, IfOk, OnOk, length, map};
+ghost use Rattle.std.specs.Option.{option_copied};
+ghost use Rattle.declared_features.specs.Lists.{HasJust, Adds};
+ghost use Rattle.declared_features.specs.Manifests.{place_of, features_in, features_at};
+ghost use Rattle.declared_features.specs.Described.{IsDescribed, AreDescribed, KeepsDescribed};
+ghost use Rattle.declared_features.specs.Members.{IsOwn, IsOfDependency, StandsFor, SomeStandsFor, HasListsOf};
+ghost use Rattle.declared_features.specs.Requests.{toml_name, IsDefault, IsRequested, IsNamedOf, AreDependenciesOf};
+ghost use Rattle.declared_features.specs.Inside.Places.{place_at, place_in, AreNamesOf};
+
+use crate::declaring::{Declarations, Declaring, Row, rows_of};
+use crate::entries::FeatureEntry;
 use crate::manifests::{Declared, Manifest};
 use crate::places::Places;
+use crate::requested::starter_of;
 use cargo_features::{Dependency, Member, Package};
 use package_graphs::Package as Unit;
 use std::alloc::{AllocError, Global};
 
 /// The features that are requested of the roots.
 #[derive(Clone, Copy, Drop)]
-pub struct Asked<'a> {
+pub struct RequestedFeatures<'a> {
     /// The requested features by name: `f` of each root that has it, `root/f` of one root, or `d/f` of a dependency
     /// `d`.
     pub names: &'a [&'a str],
@@ -50,59 +60,106 @@ struct Names<'a> {
     features: Vec<Places<'a>>,
 }
 
-/// Returns the indexes of the features of a package by name. A package without declarations has none.
+/// Returns the indexes of the features of a package by name. A package without a manifest has none.
 fn places_of_features<'a>(
     alloc: Global,
     manifest: Option<&Manifest<'a>>,
-) -> Result<Places<'a>, AllocError> {
-    let mut features = Places::new(alloc);
-    if let Some(manifest) = manifest {
-        'features: for i in 0..manifest.features.len() {
-            features.add(manifest.features[i].name, i)?;
-        }
+) -> Result<Places<'a>, AllocError>
+    ensures { IfOk result
+        (λ places. (q : List ℕ) → place_at places q ≡ place_of (features_in (option_copied manifest.entry)) q) }
+{
+    let mut places = Places::new(alloc);
+    let Some(manifest) = manifest else {
+        return Ok(places);
+    };
+    'features: for i in 0..manifest.features.len() {
+        places.add(manifest.features[i].name, i)?;
     }
-    Ok(features)
+    Ok(places)
 }
 
 impl<'a> Names<'a> {
     /// Returns the features of the packages of a graph by name.
-    fn of(alloc: Global, graph: &Declaring<'_, 'a>) -> Result<Names<'a>, AllocError> {
+    fn of(alloc: Global, declarations: &Declarations<'a>) -> Result<Names<'a>, AllocError>
+        ensures { IfOk result (λ names. AreNamesOf declarations.now names) }
+    {
         let mut features = Vec::new(alloc);
-        for node in 0..graph.metadata.nodes.len() {
-            features.push(places_of_features(alloc, graph.declared.manifest(node))?)?;
+        'nodes: for node in 0..declarations.node_count() {
+            let places = places_of_features(alloc, declarations.manifest(node))?;
+            features.push(places)?;
         }
         Ok(Names { features })
     }
 
     /// Returns the index of a feature of the package of a node.
-    fn feature(&self, node: usize, name: &'a str) -> Option<usize> {
-        self.features.get(node)?.find(name)
+    fn feature(&self, node: usize, name: &'a str) -> Option<usize>
+        ensures { result ≡ place_in self.now node name.now }
+    {
+        match self.features.get(node) {
+            Some(places) => places.find(name),
+            None => None,
+        }
     }
 }
 
+/// Appends an index, if there is one.
+fn push_place(place: Option<usize>, places: &mut Vec<usize>) -> Result<(), AllocError>
+    ensures { OnOk result (Adds places.old.items places.new.items (λ x. place ≡ Some x)) }
+{
+    match place {
+        Some(place) => {
+            places.push(place)?;
+            Ok(())
+        }
+        None => Ok(()),
+    }
+}
+
+/// Appends a member, if there is one.
+fn push_member(member: Option<Member>, members: &mut Vec<Member>) -> Result<(), AllocError>
+    ensures { OnOk result (Adds members.old.items members.new.items (λ m. member ≡ Some m)) }
+{
+    match member {
+        Some(member) => {
+            members.push(member)?;
+            Ok(())
+        }
+        None => Ok(()),
+    }
+}
+
+/// Returns the index of the feature `default`, if a declared dependency uses that and the package has it.
+fn default_requested<'a>(names: &Names<'a>, to: usize, declared: &Declared<'a>) -> Option<usize>
+    ensures { (place : ℕ) → (result ≡ Some place) ↔ IsDefault (place_in names.now) to declared.now place }
+{
+    if !declared.uses_default {
+        return None;
+    }
+    names.feature(to, "default")
+}
+
 /// Returns the indexes of the features that a declared dependency requests, as far as the package has them.
-fn features_asked<'a>(
+fn features_requested<'a>(
     alloc: Global,
     names: &Names<'a>,
     to: usize,
     declared: &Declared<'a>,
-) -> Result<Vec<usize>, AllocError> {
+) -> Result<Vec<usize>, AllocError>
+    ensures { IfOk result (λ features. HasJust features.items (IsRequested (place_in names.now) to declared.now)) }
+{
     let mut features = Vec::new(alloc);
-    for feature in &declared.features {
-        if let Some(place) = names.feature(to, feature) {
-            features.push(place)?;
-        }
+    'features: for i in 0..declared.features.len() {
+        let feature = declared.features[i];
+        push_place(names.feature(to, feature), &mut features)?;
     }
-    if declared.uses_default {
-        if let Some(place) = names.feature(to, "default") {
-            features.push(place)?;
-        }
-    }
+    push_place(default_requested(names, to, declared), &mut features)?;
     Ok(features)
 }
 
 /// Returns the name that a package's manifest gives a dependency.
-pub fn toml_name<'a>(declared: &Declared<'a>) -> &'a str {
+pub fn toml_name<'a>(declared: &Declared<'a>) -> &'a str
+    ensures { result.now ≡ toml_name declared.now }
+{
     declared.rename.unwrap_or(declared.name)
 }
 
@@ -113,7 +170,9 @@ fn named_of<'a>(
     node: usize,
     row: &Row<'_, 'a>,
     declared: &Declared<'a>,
-) -> Result<Named<'a>, AllocError> {
+) -> Result<Named<'a>, AllocError>
+    ensures { IfOk result (IsNamedOf (place_in names.now) node row.now declared.now) }
+{
     let name = toml_name(declared);
     Ok(Named {
         name,
@@ -122,7 +181,7 @@ fn named_of<'a>(
             kind: row.linked.kind,
             is_optional: declared.is_optional,
             holds: row.linked.holds,
-            features: features_asked(alloc, names, row.linked.to, declared)?,
+            features: features_requested(alloc, names, row.linked.to, declared)?,
             named: names.feature(node, name),
         },
         edge: row.place,
@@ -135,15 +194,21 @@ fn dependencies_of<'a>(
     graph: &Declaring<'_, 'a>,
     names: &Names<'a>,
     node: usize,
-) -> Result<Vec<Named<'a>>, AllocError> {
+) -> Result<Vec<Named<'a>>, AllocError>
+    ensures { IfOk result (λ found. AreDependenciesOf graph.now (place_in names.now) node found.items) }
+{
     let mut found = Vec::new(alloc);
+    let rows = rows_of(alloc, graph.metadata, graph.linked, node)?;
     let Some(manifest) = graph.declared.manifest(node) else {
         return Ok(found);
     };
-    for row in &rows_of(alloc, graph.metadata, graph.linked, node)? {
-        for declared in &manifest.dependencies {
+    'rows: for i in 0..rows.len() {
+        'declared: for j in 0..manifest.dependencies.len() {
+            let row = &rows[i];
+            let declared = &manifest.dependencies[j];
             if graph.is_of(node, row, declared) {
-                found.push(named_of(alloc, names, node, row, declared)?)?;
+                let named = named_of(alloc, names, node, row, declared)?;
+                found.push(named)?;
             }
         }
     }
@@ -158,71 +223,100 @@ struct Lists<'m, 'a> {
     node: usize,
 }
 
-impl<'m, 'a> Lists<'m, 'a> {
-    /// Appends the members for a listed text that names a feature of a dependency.
-    fn push_of(
-        &self,
-        name: &'a str,
-        feature: &'a str,
-        members: &mut Vec<Member>,
-    ) -> Result<(), AllocError> {
-        let (name, is_weak) = match name.strip_suffix("?") {
-            Some(name) => (name, true),
-            None => (name, false),
-        };
-        for i in 0..self.found.len() {
-            let one = &self.found[i];
-            if one.name != name {
-                continue;
+impl<'a> Named<'a> {
+    /// Returns the member that an entry stands for, of this dependency at an index.
+    fn member(&self, names: &Names<'a>, entry: FeatureEntry<'a>, i: usize) -> Option<Member>
+        ensures { (m : Member) → (result ≡ Some m) ↔ IsOfDependency (place_in names.now) entry.entry i self.now m }
+    {
+        match entry {
+            FeatureEntry::Feature(_) => None,
+            FeatureEntry::Dependency(name) => {
+                if self.name != name {
+                    return None;
+                }
+                Some(Member::Dependency(i))
             }
-            match self.names.feature(one.dependency.to, feature) {
-                Some(place) if is_weak => members.push(Member::Weak(i, place))?,
-                Some(place) => members.push(Member::Strong(i, place))?,
-                None if is_weak => {}
-                None => members.push(Member::Dependency(i))?,
-            }
-        }
-        Ok(())
-    }
-
-    /// Appends the members for a text in the list of a feature.
-    fn push_listed(&self, text: &'a str, members: &mut Vec<Member>) -> Result<(), AllocError> {
-        if let Some(name) = text.strip_prefix("dep:") {
-            for i in 0..self.found.len() {
-                if self.found[i].name == name {
-                    members.push(Member::Dependency(i))?;
+            FeatureEntry::Strong(name, feature) => {
+                if self.name != name {
+                    return None;
+                }
+                match names.feature(self.dependency.to, feature) {
+                    Some(place) => Some(Member::Strong(i, place)),
+                    None => Some(Member::Dependency(i)),
                 }
             }
+            FeatureEntry::Weak(name, feature) => {
+                if self.name != name {
+                    return None;
+                }
+                match names.feature(self.dependency.to, feature) {
+                    Some(place) => Some(Member::Weak(i, place)),
+                    None => None,
+                }
+            }
+        }
+    }
+}
+
+impl<'m, 'a> Lists<'m, 'a> {
+    /// Appends the member that an entry stands for, if it is a feature of the package itself.
+    fn push_own(&self, entry: FeatureEntry<'a>, members: &mut Vec<Member>) -> Result<(), AllocError>
+        ensures { OnOk result (Adds members.old.items members.new.items
+            (IsOwn (place_in self.now.names.now) self.now.node entry.entry)) }
+    {
+        let FeatureEntry::Feature(name) = entry else {
             return Ok(());
-        }
-        if let Some((name, feature)) = text.split_once('/') {
-            return self.push_of(name, feature, members);
-        }
-        if let Some(place) = self.names.feature(self.node, text) {
-            members.push(Member::Feature(place))?;
-        }
+        };
+        let Some(place) = self.names.feature(self.node, name) else {
+            return Ok(());
+        };
+        members.push(Member::Feature(place))?;
         Ok(())
     }
 
-    /// Returns the members for the texts in the list of a feature.
-    fn members(&self, alloc: Global, texts: &[&'a str]) -> Result<Vec<Member>, AllocError> {
+    /// Appends the members that an entry stands for.
+    fn push_members(
+        &self,
+        entry: FeatureEntry<'a>,
+        members: &mut Vec<Member>,
+    ) -> Result<(), AllocError>
+        ensures { OnOk result (Adds members.old.items members.new.items
+            (StandsFor (place_in self.now.names.now) self.now.node self.now.found.now entry.entry)) }
+    {
+        'found: for i in 0..self.found.len() {
+            let member = self.found[i].member(self.names, entry, i);
+            push_member(member, members)?;
+        }
+        self.push_own(entry, members)?;
+        Ok(())
+    }
+
+    /// Returns the members that entries in the list of a feature stand for.
+    fn members(
+        &self,
+        alloc: Global,
+        entries: &[FeatureEntry<'a>],
+    ) -> Result<Vec<Member>, AllocError>
+        ensures { IfOk result (λ members. HasJust members.items
+            (SomeStandsFor (place_in self.now.names.now) self.now.node self.now.found.now entries.now)) }
+    {
         let mut members = Vec::new(alloc);
-        for text in texts {
-            self.push_listed(text, &mut members)?;
+        'entries: for i in 0..entries.len() {
+            self.push_members(entries[i], &mut members)?;
         }
         Ok(members)
     }
 
     /// Returns the members for the features that are requested of a root with this many features.
-    fn members_asked(
+    fn members_requested(
         &self,
         alloc: Global,
         package: &str,
         count: usize,
-        asked: &Asked<'a>,
+        requested: &RequestedFeatures<'a>,
     ) -> Result<Vec<Member>, AllocError> {
-        let mut members = self.members(alloc, &asked.texts(alloc, package, self.node)?)?;
-        if asked.all {
+        let mut members = self.members(alloc, &requested.entries(alloc, package, self.node)?)?;
+        if requested.all {
             for i in 0..count {
                 members.push(Member::Feature(i))?;
             }
@@ -230,66 +324,51 @@ impl<'m, 'a> Lists<'m, 'a> {
         Ok(members)
     }
 
-    /// Returns what the features of a package list. A package without declarations has no features.
+    /// Returns what the features of a package list. A package without a manifest has no features.
     fn of_features(
         &self,
         alloc: Global,
         manifest: Option<&Manifest<'a>>,
-    ) -> Result<Vec<Vec<Member>>, AllocError> {
+    ) -> Result<Vec<Vec<Member>>, AllocError>
+        ensures { IfOk result (λ features. HasListsOf
+            (SomeStandsFor (place_in self.now.names.now) self.now.node self.now.found.now)
+            (features_in (option_copied manifest.entry)) features.items) }
+    {
         let mut features = Vec::new(alloc);
-        if let Some(manifest) = manifest {
-            for feature in &manifest.features {
-                features.push(self.members(alloc, &feature.lists)?)?;
-            }
+        let Some(manifest) = manifest else {
+            return Ok(features);
+        };
+        'features: for i in 0..manifest.features.len() {
+            let members = self.members(alloc, &manifest.features[i].lists)?;
+            features.push(members)?;
         }
         Ok(features)
     }
 }
 
 /// Returns a feature that is requested of a root, without the root's own name before it.
-pub fn text_asked<'a>(root: &str, text: &'a str) -> &'a str {
+pub fn text_requested<'a>(root: &str, text: &'a str) -> &'a str {
     match text.split_once('/') {
         Some((first, feature)) if first == root => feature,
         _ => text,
     }
 }
 
-/// Returns for each dependency its index among those of the linked package.
-fn edges_of(alloc: Global, found: &[Named<'_>]) -> Result<Vec<usize>, AllocError> {
+/// Returns dependencies without their names, and for each its index among those of the linked package.
+fn unnamed(
+    alloc: Global,
+    found: Vec<Named<'_>>,
+) -> Result<(Vec<Dependency>, Vec<usize>), AllocError>
+    ensures dependencies { IfOk result (λ parts. parts.0.items ≡ map (λ one. one.dependency) found.entry.items) }
+    ensures edges { IfOk result (λ parts. parts.1.items ≡ map (λ one. one.edge) found.entry.items) }
+{
+    let mut dependencies = Vec::new(alloc);
     let mut edges = Vec::new(alloc);
     for one in found {
         edges.push(one.edge)?;
-    }
-    Ok(edges)
-}
-
-/// Returns the dependencies without their names.
-fn unnamed(alloc: Global, found: Vec<Named<'_>>) -> Result<Vec<Dependency>, AllocError> {
-    let mut dependencies = Vec::new(alloc);
-    for one in found {
         dependencies.push(one.dependency)?;
     }
-    Ok(dependencies)
-}
-
-/// Returns the package for a linked one. The last feature of a root lists what is requested of it.
-fn package_of(
-    alloc: Global,
-    unit: &Unit,
-    found: Vec<Named<'_>>,
-    features: Vec<Vec<Member>>,
-) -> Result<Package, AllocError> {
-    let mut asked = Vec::new(alloc);
-    if unit.is_root {
-        asked.push(features.len().saturating_sub(1))?;
-    }
-    Ok(Package {
-        is_root: unit.is_root,
-        is_macro: unit.is_macro,
-        dependencies: unnamed(alloc, found)?,
-        features,
-        asked,
-    })
+    Ok((dependencies, edges))
 }
 
 /// Returns what the features of the package of a node list. The last feature of a root lists what is requested of it.
@@ -298,47 +377,97 @@ fn lists_of<'a>(
     graph: &Declaring<'_, 'a>,
     lists: &Lists<'_, 'a>,
     unit: &Unit,
-    asked: &Asked<'a>,
-) -> Result<Vec<Vec<Member>>, AllocError> {
+    requested: &RequestedFeatures<'a>,
+) -> Result<Vec<Vec<Member>>, AllocError>
+    ensures { IfOk result (λ features. HasListsOf
+        (SomeStandsFor (place_in lists.now.names.now) lists.now.node lists.now.found.now)
+        (features_at graph.now.declared.now lists.now.node) features.items) }
+{
     let mut features = lists.of_features(alloc, graph.declared.manifest(lists.node))?;
-    if asked.concerns(lists.node, unit) {
-        let package = graph.name(lists.node);
-        let count = features.len();
-        features.push(lists.members_asked(alloc, package, count, asked)?)?;
+    if !requested.concerns(lists.node, unit) {
+        return Ok(features);
     }
+    let package = graph.name(lists.node);
+    let count = features.len();
+    let members = lists.members_requested(alloc, package, count, requested)?;
+    features.push(members)?;
     Ok(features)
+}
+
+/// Returns the package of a node, as input of the feature resolver, and for each dependency its index among those of
+/// the linked package. The last feature of a root lists what is requested of it.
+fn described_package<'a>(
+    alloc: Global,
+    graph: &Declaring<'_, 'a>,
+    names: &Names<'a>,
+    node: usize,
+    requested: &RequestedFeatures<'a>,
+) -> Result<(Package, Vec<usize>), AllocError>
+    requires { node < length graph.now.linked.now.packages.items }
+    ensures { IfOk result
+        (λ described. IsDescribed graph.now (place_in names.now) node described.0 described.1.items) }
+{
+    let unit = &graph.linked.packages[node];
+    let found = dependencies_of(alloc, graph, names, node)?;
+    let lists = Lists {
+        names,
+        found: &found,
+        node,
+    };
+    let features = lists_of(alloc, graph, &lists, unit, requested)?;
+    let mut of_root = Vec::new(alloc);
+    if unit.is_root {
+        of_root.push(features.len().saturating_sub(1))?;
+    }
+    let (dependencies, edges) = unnamed(alloc, found)?;
+    let package = Package {
+        is_root: unit.is_root,
+        is_macro: unit.is_macro,
+        dependencies,
+        features,
+        requested: of_root,
+    };
+    Ok((package, edges))
+}
+
+/// Adds the root that makes the package of the current directory active, if resolver 1 needs one.
+fn add_starter(
+    alloc: Global,
+    requested: &RequestedFeatures<'_>,
+    described: &mut Described,
+) -> Result<(), AllocError>
+    ensures { OnOk result (KeepsDescribed described.old described.new) }
+{
+    let Some(current) = requested.current else {
+        return Ok(());
+    };
+    let Some(package) = starter_of(alloc, &described.packages, current)? else {
+        return Ok(());
+    };
+    described.packages.push(package)?;
+    described.edges.push(Vec::new(alloc))?;
+    Ok(())
 }
 
 /// Returns the packages of a graph, as input of the feature resolver. Fails only if memory is refused.
 pub fn described_features<'a>(
     alloc: Global,
     graph: &Declaring<'_, 'a>,
-    asked: &Asked<'a>,
-) -> Result<Described, AllocError> {
-    let names = Names::of(alloc, graph)?;
-    let mut described = Described {
-        packages: Vec::new(alloc),
-        edges: Vec::new(alloc),
-    };
-    for node in 0..graph.linked.packages.len() {
-        let unit = &graph.linked.packages[node];
-        let found = dependencies_of(alloc, graph, &names, node)?;
-        let lists = Lists {
-            names: &names,
-            found: &found,
-            node,
-        };
-        let features = lists_of(alloc, graph, &lists, unit, asked)?;
-        described.edges.push(edges_of(alloc, &found)?)?;
-        described
-            .packages
-            .push(package_of(alloc, unit, found, features)?)?;
+    requested: &RequestedFeatures<'a>,
+) -> Result<Described, AllocError>
+    // The package of each node has the dependencies that the document declares and that have edges, and each of its
+    // features has the members that the entries of its list stand for.
+    ensures { IfOk result (AreDescribed graph.now) }
+{
+    let names = Names::of(alloc, graph.declared)?;
+    let mut packages = Vec::new(alloc);
+    let mut edges = Vec::new(alloc);
+    'nodes: for node in 0..graph.linked.packages.len() {
+        let (package, its_edges) = described_package(alloc, graph, &names, node, requested)?;
+        packages.push(package)?;
+        edges.push(its_edges)?;
     }
-    if let Some(current) = asked.current {
-        if let Some(package) = starter_of(alloc, &described.packages, current)? {
-            described.packages.push(package)?;
-            described.edges.push(Vec::new(alloc))?;
-        }
-    }
+    let mut described = Described { packages, edges };
+    add_starter(alloc, requested, &mut described)?;
     Ok(described)
 }

@@ -1,5 +1,14 @@
 //! The declarations of packages in a document: their dependencies and features.
 
+ghost use Rattle.std.specs.Prelude.{◌≡◌, IfOk, IfSome, Some, codes};
+ghost use Rattle.std.specs.Option.{option_copied};
+ghost use Rattle.serde_json.specs.View.{view};
+ghost use Rattle.cargo_metadata.specs.Fields.{text_at};
+ghost use Rattle.cargo_metadata.specs.Nodes.{kind_at, condition_at};
+ghost use Rattle.cargo_metadata.specs.Rows.{AreRowsAt};
+ghost use Rattle.declared_features.specs.Documents.{flag_at, IsText, IsDeclared, AreEntriesOf};
+
+use crate::entries::{FeatureEntry, entry_of};
 use crate::fields::{
     Wanted, Wrong, condition_of, kind_of, list_at, text_at, wanted_flag, wanted_list, wanted_text,
 };
@@ -27,11 +36,11 @@ pub struct Declared<'a> {
     pub condition: Option<&'a str>,
 }
 
-/// A feature, and the texts that it lists.
+/// A feature, and the entries that it lists.
 #[derive(Drop)]
 pub struct Feature<'a> {
     pub name: &'a str,
-    pub lists: Vec<&'a str>,
+    pub lists: Vec<FeatureEntry<'a>>,
 }
 
 /// The declarations of a package.
@@ -72,7 +81,9 @@ pub enum Refusal {
 }
 
 /// Returns the features that a declared dependency requests.
-fn asked_of<'a>(alloc: Global, value: &'a Value) -> Result<Vec<&'a str>, InDeclared> {
+fn requested_of<'a>(alloc: Global, value: &'a Value) -> Result<Vec<&'a str>, InDeclared>
+    ensures { IfOk result (λ features. AreRowsAt IsText (codes "features") (view value.now) features.items) }
+{
     let items = match wanted_list(value, "features") {
         Ok(items) => items,
         Err(wrong) => return Err(InDeclared::Field(wrong)),
@@ -90,14 +101,21 @@ fn asked_of<'a>(alloc: Global, value: &'a Value) -> Result<Vec<&'a str>, InDecla
 }
 
 /// Returns the flags of a declared dependency: whether it is optional, and whether it uses the default features.
-fn flags_of(value: &Value) -> Result<(bool, bool), Wrong> {
+fn flags_of(value: &Value) -> Result<(bool, bool), Wrong>
+    ensures optional { IfOk result (λ flags. flag_at (codes "optional") (view value.now) ≡ Some flags.0) }
+    ensures default { IfOk result (λ flags. flag_at (codes "uses_default_features") (view value.now) ≡ Some flags.1) }
+{
     let is_optional = wanted_flag(value, "optional")?;
     let uses_default = wanted_flag(value, "uses_default_features")?;
     Ok((is_optional, uses_default))
 }
 
 /// Returns the name, the kind and the condition of a declared dependency.
-fn subject_of<'a>(value: &'a Value) -> Result<(&'a str, Kind, Option<&'a str>), Wrong> {
+fn subject_of<'a>(value: &'a Value) -> Result<(&'a str, Kind, Option<&'a str>), Wrong>
+    ensures name { IfOk result (λ subject. text_at (codes "name") (view value.now) ≡ Some subject.0.now) }
+    ensures kind { IfOk result (λ subject. kind_at (view value.now) ≡ Some subject.1) }
+    ensures condition { IfOk result (λ subject. condition_at (view value.now) ≡ Some (option_copied subject.2)) }
+{
     let name = wanted_text(value, "name")?;
     let kind = kind_of(value)?;
     let condition = condition_of(value)?;
@@ -105,7 +123,9 @@ fn subject_of<'a>(value: &'a Value) -> Result<(&'a str, Kind, Option<&'a str>), 
 }
 
 /// Reads a declared dependency from an object.
-fn declared_of<'a>(alloc: Global, value: &'a Value) -> Result<Declared<'a>, InDeclared> {
+fn declared_of<'a>(alloc: Global, value: &'a Value) -> Result<Declared<'a>, InDeclared>
+    ensures { IfOk result (IsDeclared (view value.now)) }
+{
     let (name, kind, condition) = match subject_of(value) {
         Ok(subject) => subject,
         Err(wrong) => return Err(InDeclared::Field(wrong)),
@@ -114,10 +134,11 @@ fn declared_of<'a>(alloc: Global, value: &'a Value) -> Result<Declared<'a>, InDe
         Ok(flags) => flags,
         Err(wrong) => return Err(InDeclared::Field(wrong)),
     };
-    let features = asked_of(alloc, value)?;
+    let features = requested_of(alloc, value)?;
+    let rename = text_at(value, "rename");
     Ok(Declared {
         name,
-        rename: text_at(value, "rename"),
+        rename,
         kind,
         is_optional,
         uses_default,
@@ -153,19 +174,24 @@ fn library_of<'a>(value: &'a Value) -> Option<&'a str> {
     None
 }
 
-/// Returns the texts of a list, or `None` if the value is not a list of texts.
-fn texts_of<'a>(alloc: Global, value: &'a Value) -> Result<Option<Vec<&'a str>>, AllocError> {
+/// Returns the entries that the texts of a list spell, or `None` if the value is not a list of texts.
+fn entries_of<'a>(
+    alloc: Global,
+    value: &'a Value,
+) -> Result<Option<Vec<FeatureEntry<'a>>>, AllocError>
+    ensures { IfOk result (λ found. IfSome found (λ entries. AreEntriesOf (view value.now) entries.items)) }
+{
     let Some(items) = value.as_array() else {
         return Ok(None);
     };
-    let mut texts = Vec::new(alloc);
-    for item in items {
-        match item.as_str() {
-            Some(text) => texts.push(text)?,
+    let mut entries = Vec::new(alloc);
+    'items: for i in 0..items.len() {
+        match items[i].as_str() {
+            Some(text) => entries.push(entry_of(text))?,
             None => return Ok(None),
         }
     }
-    Ok(Some(texts))
+    Ok(Some(entries))
 }
 
 /// Returns the features of a package, or `None` if they are not an object of lists of texts.
@@ -181,7 +207,7 @@ fn features_of<'a>(
     };
     let mut features = Vec::new(alloc);
     for (name, listed) in members.iter() {
-        let Some(lists) = texts_of(alloc, listed)? else {
+        let Some(lists) = entries_of(alloc, listed)? else {
             return Ok(None);
         };
         features.push(Feature {
@@ -193,7 +219,10 @@ fn features_of<'a>(
 }
 
 /// Returns the dependencies that a package declares.
-fn dependencies_of<'a>(alloc: Global, value: &'a Value) -> Result<Vec<Declared<'a>>, InManifest> {
+fn dependencies_of<'a>(alloc: Global, value: &'a Value) -> Result<Vec<Declared<'a>>, InManifest>
+    ensures { IfOk result
+        (λ dependencies. AreRowsAt IsDeclared (codes "dependencies") (view value.now) dependencies.items) }
+{
     let items = match wanted_list(value, "dependencies") {
         Ok(items) => items,
         Err(wrong) => return Err(InManifest::Field(wrong)),

@@ -24,7 +24,7 @@ abbrev pub count_of : List Package → ℕ
 count_of packages = 1 + sum_by width packages
 
 abbrev pub place_of : List Package → Claim → ℕ
-place_of packages claim.Asked = 0
+place_of packages claim.Requested = 0
 place_of packages (claim.Active p from) = first_of packages p + node_of 0 from
 place_of packages (claim.Used p from) = first_of packages p + node_of 1 from
 place_of packages (claim.Feature p from f) = first_of packages p + node_of (f + 2) from

@@ -1,4 +1,4 @@
-use Rattle.cargo_features.proofs.Asking.{holds_more}
+use Rattle.cargo_features.proofs.Requests.{holds_more}
 use Rattle.cargo_features.proofs.laws.more_features_take_nothing_away.Goals as goal
 
 pub returns : goal.returns

@@ -34,7 +34,7 @@ returns c =
       | inl same ↦ same
       | inr other ↦ absurd (false≢true (sym (is_in_other nothing 0 c.all.result n k other ∙ empty n k) ∙ h))
     ] in
-    let asked : (k : ℕ) → k < COUNT → is_in sets 0 k ≡ true =
+    let requested : (k : ℕ) → k < COUNT → is_in sets 0 k ≡ true =
     λ k inside. is_in_same nothing 0 c.all.result k first_in ∙ c.all.ensures k inside in
     let numbered : AreNumbered ps build.host (all_steps build ps) rules =
     subst (λ (rs : List Rule). AreNumbered ps build.host (all_steps build ps) rs) (sym c.deref.ensures.value)
@@ -44,7 +44,8 @@ returns c =
       exact = λ it k known inside.
           let fits = number_fits ps it known in
           let e = c.in_ok-sets.ensures.exact (number ps it) k (omega (arith, fits, count)) inside in (
-            λ h. holds_of_number build ps sets rules k inside many (first k) (asked k inside) numbered it known (e.0 h),
-            λ h. e.1 (number_of_holds build ps sets rules k inside many (first k) (asked k inside) numbered it h),
+            λ h. holds_of_number build ps sets rules k inside many (first k) (requested k inside) numbered it known
+                (e.0 h),
+            λ h. e.1 (number_of_holds build ps sets rules k inside many (first k) (requested k inside) numbered it h),
           );
     }

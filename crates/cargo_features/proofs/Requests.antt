@@ -1,4 +1,4 @@
--- Where more features are asked, what held before holds.
+-- Where more features are requested, what held before holds.
 use Rattle.std.proofs.Common.{◌≡◌, ◌<◌, ◌+◌, ℕ, zero, suc, Bool, true, false, ◌&&◌, ◌||◌, cond, List, [], ◌∷◌}
 use Rattle.std.proofs.Common.{◌++◌, length, map}
 use Rattle.std.proofs.Common.{Vec, Global, get_or, refl, sym, ◌∙◌, ap, subst, inl, inr, arith, Option, Some, None}
@@ -13,7 +13,7 @@ use Rattle.package_graphs.specs.declared.packages.Side.{Side}
 use Rattle.package_graphs.specs.declared.packages.Side.TheVariants.{Target, Host}
 use Rattle.cargo_features.specs.Deriving.{given, follows}
 use Rattle.cargo_features.proofs.Following.{held_through}
-use Rattle.cargo_features.specs.Asking.{asking, AsksMore, AskMore}
+use Rattle.cargo_features.specs.Requests.{asking, AsksMore, AskMore}
 use Rattle.cargo_features.specs.Ways.{condition, way, is_macro, feature_side, is_counted, begins_on}
 use Rattle.cargo_features.specs.Steps.{one, both, when, at_each, to_feature, gate, is_first_side, root_steps}
 use Rattle.cargo_features.specs.Steps.{active_steps, used_steps, dependency_steps, strong_at, weak_at, named_steps}
@@ -35,15 +35,15 @@ use Rattle.cargo_features.specs.declared.packages.Package.{Package}
 use Rattle.cargo_features.proofs.Within.{in_each}
 use Rattle.cargo_features.proofs.Joined.{of_each}
 
--- what is told of the packages, but for what is asked of them, is the same
-mapped : {X : Type 0} (f : Package → X) → ((u : Package) (asked : Vec ℕ Global) → f (asking u asked) ≡ f u)
+-- what is told of the packages, but for what is requested of them, is the same
+mapped : {X : Type 0} (f : Package → X) → ((u : Package) (requested : Vec ℕ Global) → f (asking u requested) ≡ f u)
     → (xs ys : List Package) → AskMore xs ys → map f xs ≡ map f ys
 mapped f same [] [] m = refl
 mapped f same [] (y ∷ ys) m = absurd (omega (arith, m.count))
 mapped f same (x ∷ xs) [] m = absurd (omega (arith, m.count))
 mapped {X} f same (x ∷ xs) (y ∷ ys) m =
     let first : AsksMore x y = m.each 0 (omega arith) x in
-    let is : f y ≡ f x = ap (λ (u : Package). f u) first.same ∙ same x y.asked in
+    let is : f y ≡ f x = ap (λ (u : Package). f u) first.same ∙ same x y.requested in
     let rest : AskMore xs ys = record {
       count = omega (arith, m.count);
       each = λ p below d. m.each (suc p) (omega (arith, below)) d;
@@ -62,7 +62,7 @@ module _ (build : Build) (packages others : List Package) (more : AskMore packag
   macro_same : (p : ℕ) → is_macro packages p ≡ is_macro others p
   macro_same p =
       ap (λ (ms : List Bool). slice_index_or ms p false)
-      (mapped (λ (u : Package). u.is_macro) (λ u asked. refl) packages others more)
+      (mapped (λ (u : Package). u.is_macro) (λ u requested. refl) packages others more)
 
   way_same : (s : Side) (d : Dependency) → way packages s d ≡ way others s d
   way_same s d =
@@ -72,15 +72,15 @@ module _ (build : Build) (packages others : List Package) (more : AskMore packag
       }) (macro_same d.to)
 
   known_same : (c : Claim) → is_known packages c ≡ true → is_known others c ≡ true
-  known_same claim.Asked h = h
+  known_same claim.Requested h = h
   known_same (claim.Active p from) h = subst (λ (n : ℕ). nat_lt p n ≡ true) (sym more.count) h
   known_same (claim.Used p from) h = subst (λ (n : ℕ). nat_lt p n ≡ true) (sym more.count) h
   known_same (claim.Feature p from f) h =
       subst (λ (ns : List ℕ). nat_lt f (slice_index_or ns p 0) ≡ true)
-      (mapped (λ (u : Package). length u.features.items) (λ u asked. refl) packages others more) h
+      (mapped (λ (u : Package). length u.features.items) (λ u requested. refl) packages others more) h
   known_same (claim.Dependency p from d) h =
       subst (λ (ns : List ℕ). nat_lt d (slice_index_or ns p 0) ≡ true)
-      (mapped (λ (u : Package). length u.dependencies.items) (λ u asked. refl) packages others more) h
+      (mapped (λ (u : Package). length u.dependencies.items) (λ u requested. refl) packages others more) h
 
   module _ (at : Place) (unit : Package) where
     -- the steps by the way of a dependency
@@ -138,9 +138,10 @@ module _ (build : Build) (packages others : List Package) (more : AskMore packag
     member_same from (listed.Strong i g) = strong_same from i g (slice_get unit.dependencies.items i)
     member_same from (listed.Weak i g) = weak_same from i g (slice_get unit.dependencies.items i)
 
-    module _ (asked : Vec ℕ Global) (has : (f : ℕ) → Contains unit.asked.items f → Contains asked.items f) where
+    module _ (requested : Vec ℕ Global) (has : (f : ℕ) → Contains unit.requested.items f
+        → Contains requested.items f) where
       abbrev there : Package
-      there = asking unit asked
+      there = asking unit requested
 
       begins_same : (s : Side) → begins_on build s unit ≡ begins_on build s there
       begins_same Target = refl
@@ -152,22 +153,24 @@ module _ (build : Build) (packages others : List Package) (more : AskMore packag
 
       abbrev root_by : Bool → Bool → List ℕ → List Step
       root_by begins is_first fs =
-          when begins (one claim.Asked (claim.Active at.index at.side) Always)
-          ++ flat_map (to_feature begins claim.Asked at Always) fs
-          ++ when is_first (one claim.Asked (claim.Used at.index at.side) Always)
+          when begins (one claim.Requested (claim.Active at.index at.side) Always)
+          ++ flat_map (to_feature begins claim.Requested at Always) fs
+          ++ when is_first (one claim.Requested (claim.Used at.index at.side) Always)
 
       root_more : (y : Step) → Contains (root_steps build at unit) y → Contains (root_steps build at there) y
       root_more y h =
           let begins = begins_on build at.side unit in
-          let active = when begins (one claim.Asked (claim.Active at.index at.side) Always) in
-          let feature = to_feature begins claim.Asked at Always in
-          let used = when (is_first_side at.side unit) (one claim.Asked (claim.Used at.index at.side) Always) in
-          subst (λ (b : Bool). Contains (root_by b (is_first_side at.side there) asked.items) y) (begins_same at.side)
-          (subst (λ (b : Bool). Contains (root_by begins b asked.items) y) (first_same at.side)
-          (in_both (active ++ flat_map feature unit.asked.items) used (active ++ flat_map feature asked.items) used y
-          (in_both active (flat_map feature unit.asked.items) active (flat_map feature asked.items) y (λ x. x)
-          (λ x. let from = contains_flat_map feature unit.asked.items y x in
-          in_flat_map feature asked.items from.0 y (has from.0 from.1) from.2))
+          let active = when begins (one claim.Requested (claim.Active at.index at.side) Always) in
+          let feature = to_feature begins claim.Requested at Always in
+          let used = when (is_first_side at.side unit) (one claim.Requested (claim.Used at.index at.side) Always) in
+          subst (λ (b : Bool). Contains (root_by b (is_first_side at.side there) requested.items) y)
+          (begins_same at.side)
+          (subst (λ (b : Bool). Contains (root_by begins b requested.items) y) (first_same at.side)
+          (in_both (active ++ flat_map feature unit.requested.items) used
+          (active ++ flat_map feature requested.items) used y
+          (in_both active (flat_map feature unit.requested.items) active (flat_map feature requested.items) y (λ x. x)
+          (λ x. let from = contains_flat_map feature unit.requested.items y x in
+          in_flat_map feature requested.items from.0 y (has from.0 from.1) from.2))
           (λ x. x) h))
 
       dependency_more : (y : Step) → Contains (dependency_steps build packages at unit) y
@@ -211,13 +214,13 @@ module _ (build : Build) (packages others : List Package) (more : AskMore packag
   unit_more : (p : ℕ) (unit other : Package) → AsksMore unit other → (y : Step)
       → Contains (steps_on_both build packages p unit) y → Contains (steps_on_both build others p other) y
   unit_more p unit other m y h =
-      let there = asking unit other.asked in
+      let there = asking unit other.requested in
       let on : Place = record { index = p; side = Target } in
       let off : Place = record { index = p; side = Host } in
       subst (λ (u : Package). Contains (steps_on_both build others p u) y) (sym m.same)
       (in_both (steps_of build packages on unit) (steps_of build packages off unit)
       (steps_of build others on there) (steps_of build others off there) y
-      (place_more on unit other.asked m.asked y) (place_more off unit other.asked m.asked y) h)
+      (place_more on unit other.requested m.requested y) (place_more off unit other.requested m.requested y) h)
 
   all_more : (y : Step) → Contains (all_steps build packages) y → Contains (all_steps build others) y
   all_more y h =
@@ -234,7 +237,7 @@ module _ (build : Build) (packages others : List Package) (more : AskMore packag
 
   pub holds_more : (k : ℕ) (c : Claim) → Holds build packages k c → Holds build others k c
   holds_more k =
-      held_through (λ c. c ≡ claim.Asked) (λ a b c. LeadsTo build packages k a b c) (λ c. Holds build others k c)
+      held_through (λ c. c ≡ claim.Requested) (λ a b c. LeadsTo build packages k a b c) (λ c. Holds build others k c)
       (λ m is. given m is)
       (λ a b m first_holds second_holds leads.
       follows a b m first_holds second_holds (record {

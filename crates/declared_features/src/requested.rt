@@ -1,13 +1,14 @@
-//! Which features are asked of which packages.
+//! Which features are requested of which packages.
 
-use crate::linking::{Asked, text_asked};
+use crate::entries::{FeatureEntry, entry_of};
+use crate::linking::{RequestedFeatures, text_requested};
 use cargo_features::{Dependency, Package};
 use known_targets::TargetSet;
 use package_graphs::{Kind, Package as Unit};
 use std::alloc::{AllocError, Global};
 
-impl<'a> Asked<'a> {
-    /// Returns whether features are asked of the package of a node.
+impl<'a> RequestedFeatures<'a> {
+    /// Returns whether features are requested of the package of a node.
     pub fn concerns(&self, node: usize, unit: &Unit) -> bool {
         match self.current {
             Some(current) => unit.is_root || current == node,
@@ -15,7 +16,7 @@ impl<'a> Asked<'a> {
         }
     }
 
-    /// Returns whether `default` is asked of the package of a node.
+    /// Returns whether `default` is requested of the package of a node.
     fn has_default(&self, node: usize) -> bool {
         match self.current {
             Some(current) => self.default || current != node,
@@ -23,34 +24,39 @@ impl<'a> Asked<'a> {
         }
     }
 
-    /// Returns the texts of the features that are asked of the package of a node by their names, and `default` if that
-    /// is asked.
-    pub fn texts(
+    /// Returns the features that are requested of the package of a node by their names, as entries, and `default` if
+    /// that
+    /// is requested.
+    pub fn entries(
         &self,
         alloc: Global,
         package: &str,
         node: usize,
-    ) -> Result<Vec<&'a str>, AllocError> {
-        let mut texts = Vec::new(alloc);
+    ) -> Result<Vec<FeatureEntry<'a>>, AllocError> {
+        let mut entries = Vec::new(alloc);
         if self.has_default(node) {
-            texts.push("default")?;
+            entries.push(FeatureEntry::Feature("default"))?;
         }
         match self.current {
             Some(current) if current != node => {
                 for (name, feature) in self.of_others {
                     if *name == package {
-                        texts.push(*feature)?;
+                        entries.push(entry_of(feature))?;
                     }
                 }
             }
-            Some(_) => texts.extend_from_slice(self.names)?,
+            Some(_) => {
+                for text in self.names {
+                    entries.push(entry_of(text))?;
+                }
+            }
             None => {
                 for text in self.names {
-                    texts.push(text_asked(package, text))?;
+                    entries.push(entry_of(text_requested(package, text)))?;
                 }
             }
         }
-        Ok(texts)
+        Ok(entries)
     }
 }
 
@@ -61,21 +67,22 @@ fn unused(
     kind: Kind,
     features: &[usize],
 ) -> Result<Dependency, AllocError> {
-    let mut asked = Vec::new(alloc);
+    let mut requested = Vec::new(alloc);
     for feature in features {
-        asked.push(*feature)?;
+        requested.push(*feature)?;
     }
     Ok(Dependency {
         to,
         kind,
         is_optional: false,
         holds: TargetSet::none(),
-        features: asked,
+        features: requested,
         named: None,
     })
 }
 
-/// Returns a root that makes the package at a place active, with what is asked of it and with its dev-dependencies, if
+/// Returns a root that makes the package at a place active, with what is requested of it and with its
+/// dev-dependencies, if
 /// that package is no root. Resolver 1 does so wherever a dependency is true, and a build uses neither.
 pub fn starter_of(
     alloc: Global,
@@ -101,6 +108,6 @@ pub fn starter_of(
         is_macro: false,
         dependencies,
         features: Vec::new(alloc),
-        asked: Vec::new(alloc),
+        requested: Vec::new(alloc),
     }))
 }

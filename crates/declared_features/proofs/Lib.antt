@@ -1,0 +1,6 @@
+pub mod Spelling
+pub mod Collecting
+pub mod Placing
+pub mod Positions
+pub mod Matching
+pub mod Describing

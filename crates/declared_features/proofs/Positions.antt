@@ -1,0 +1,114 @@
+-- The first position of an element in a list to which one is added.
+use Rattle.std.proofs.Common.{◌≡◌, ℕ, ◌+◌, ◌<◌, ◌≤◌, Bool, true, false, cond, List, [], ◌∷◌, ◌++◌, length, get_or, take}
+use Rattle.std.proofs.Common.{refl, sym, ◌∙◌, ap, Option, Some, None, arith}
+use Rattle.std.specs.Prelude.{◌==◌, bytes_eq}
+use Rattle.std.specs.List.{position_from}
+use Rattle.std.proofs.lemmas.List.{take_more, take_all, length-take-le, ext_get_or, length-map, get_or-map}
+use Rattle.std.proofs.lemmas.Slice.Eq.{bytes_eq-Decides}
+use Rattle.declared_features.specs.Edges.{underscored, AreSame}
+use Rattle.declared_features.specs.Manifests.{place_of}
+use Rattle.declared_features.specs.Inside.Places.{placed}
+use Rattle.declared_features.specs.declared.manifests.Feature.{Feature}
+
+-- ---- one more element
+
+after : Option ℕ → Option ℕ → Option ℕ
+after (Some k) new = Some k
+after None new = new
+
+first_or : (test : Bool) (i : ℕ) (longer shorter new : Option ℕ) → longer ≡ after shorter new
+    → cond test (Some i) longer ≡ after (cond test (Some i) shorter) new
+unfolding after
+first_or true i longer shorter new is = refl
+first_or false i longer shorter new is = is
+
+position_more : {X : Type 0} (p : X → Bool) (i : ℕ) (xs : List X) (y : X)
+    → position_from p i (xs ++ y ∷ []) ≡ after (position_from p i xs) (cond (p y) (Some (i + length xs)) None)
+unfolding after
+position_more p i [] y =
+    let zero : i ≡ i + 0 = omega arith in
+    ap (λ (n : ℕ). cond (p y) (Some n) None) zero
+position_more p i (x ∷ xs) y =
+    let rest = position_more p (i + 1) xs y in
+    let count : i + 1 + length xs ≡ i + length (x ∷ xs) = omega arith in
+    let moved = ap (λ (n : ℕ). after (position_from p (i + 1) xs) (cond (p y) (Some n) None)) count in
+    first_or (p x) i (position_from p (i + 1) (xs ++ y ∷ [])) (position_from p (i + 1) xs)
+    (cond (p y) (Some (i + length (x ∷ xs))) None) (rest ∙ moved)
+
+-- ---- one more name
+
+placing : Option ℕ → Bool → ℕ → Option ℕ → Option ℕ
+placing (Some e) test i old = old
+placing None test i old = cond test (Some i) old
+
+placed_as : (earlier : Option ℕ) (name q : List ℕ) (i : ℕ) (old : Option ℕ)
+    → placed earlier name i q old ≡ placing earlier (bytes_eq name q) i old
+unfolding placing
+placed_as (Some e) name q i old = refl
+placed_as None name q i old = refl
+
+-- a name that had an index keeps it
+placing_after : (earlier old : Option ℕ) (test : Bool) (i : ℕ) → (test ≡ true → earlier ≡ old)
+    → placing earlier test i old ≡ after old (cond test (Some i) None)
+unfolding placing after
+placing_after (Some e) (Some k) test i same = refl
+placing_after (Some e) None true i same = absurd (let h = same refl in cc)
+placing_after (Some e) None false i same = refl
+placing_after None (Some k) true i same = absurd (let h = same refl in cc)
+placing_after None (Some k) false i same = refl
+placing_after None None true i same = refl
+placing_after None None false i same = refl
+
+pub place_more : (features : List Feature) (i : ℕ) (f : Feature) (old new : List ℕ → Option ℕ) → i < length features
+    → f ≡ get_or features i f → ((q : List ℕ) → new q ≡ placed (old f.name.now) f.name.now i q (old q))
+    → ((q : List ℕ) → old q ≡ place_of (take i features) q) → (q : List ℕ)
+    → new q ≡ place_of (take (i + 1) features) q
+place_more features i f old new below is added before q =
+    let name = f.name.now in
+    let whole : place_of (take (i + 1) features) q ≡ place_of (take i features ++ f ∷ []) q =
+    ap (λ (fs : List Feature). place_of fs q) (take_more features i f below)
+    ∙ ap (λ (g : Feature). place_of (take i features ++ g ∷ []) q) (sym is) in
+    let within : i ≤ length features = omega arith in
+    let count = length-take-le i features within in
+    let pushed = position_more (λ (g : Feature). bytes_eq g.name.now q) 0 (take i features) f in
+    let at : 0 + length (take i features) ≡ i = omega (arith, count) in
+    let shifted : place_of (take i features ++ f ∷ []) q
+    ≡ after (place_of (take i features) q) (cond (bytes_eq name q) (Some i) None) =
+    pushed
+    ∙ ap (λ (n : ℕ). after (place_of (take i features) q) (cond (bytes_eq name q) (Some n) None)) at in
+    added q ∙ placed_as (old name) name q i (old q)
+    ∙ placing_after (old name) (old q) (bytes_eq name q) i (λ h. ap old ((bytes_eq-Decides name q).0 h))
+    ∙ ap (λ (o : Option ℕ). after o (cond (bytes_eq name q) (Some i) None)) (before q)
+    ∙ sym shifted ∙ sym whole
+
+pub place_whole : (features : List Feature) (i : ℕ) (at : List ℕ → Option ℕ) → length features ≤ i
+    → ((q : List ℕ) → at q ≡ place_of (take i features) q) → (q : List ℕ) → at q ≡ place_of features q
+place_whole features i at past before q =
+    before q ∙ ap (λ (fs : List Feature). place_of fs q) (take_all i features past)
+
+-- ---- names that are the same but for dashes
+
+pub same_names : (xs ys : List ℕ) → length xs ≡ length ys
+    → ((k : ℕ) → k < length xs
+    → cond (get_or xs k 0 == 45) 95 (get_or xs k 0) ≡ cond (get_or ys k 0 == 45) 95 (get_or ys k 0))
+    → AreSame xs ys
+same_names xs ys count each =
+    ext_get_or 0 (underscored xs) (underscored ys)
+    (length-map xs (λ b. cond (b == 45) 95 b) ∙ count ∙ sym (length-map ys (λ b. cond (b == 45) 95 b)))
+    (λ k below.
+    let inside : k < length xs = omega (arith, below, length-map xs (λ b. cond (b == 45) 95 b)) in
+    let other : k < length ys = omega (arith, inside, count) in
+    get_or-map (λ b. cond (b == 45) 95 b) xs k 0 0 inside ∙ each k inside
+    ∙ sym (get_or-map (λ b. cond (b == 45) 95 b) ys k 0 0 other))
+
+pub same_counts : (xs ys : List ℕ) → AreSame xs ys → length xs ≡ length ys
+same_counts xs ys same =
+    sym (length-map xs (λ b. cond (b == 45) 95 b)) ∙ ap length same ∙ length-map ys (λ b. cond (b == 45) 95 b)
+
+pub same_each : (xs ys : List ℕ) (k : ℕ) → k < length xs → AreSame xs ys
+    → cond (get_or xs k 0 == 45) 95 (get_or xs k 0) ≡ cond (get_or ys k 0 == 45) 95 (get_or ys k 0)
+same_each xs ys k below same =
+    let other : k < length ys = omega (arith, below, same_counts xs ys same) in
+    sym (get_or-map (λ b. cond (b == 45) 95 b) xs k 0 0 below)
+    ∙ ap (λ (l : List ℕ). get_or l k 0) same
+    ∙ get_or-map (λ b. cond (b == 45) 95 b) ys k 0 0 other

@@ -1,0 +1,10 @@
+pub mod Entries
+pub mod Documents
+pub mod Lists
+pub mod Manifests
+pub mod Members
+pub mod Edges
+pub mod Rows
+pub mod Requests
+pub mod Described
+pub mod Inside

@@ -1,0 +1,29 @@
+-- What the packages of nodes declare.
+use Rattle.std.specs.Prelude.{ℕ, List, [], Option, Some, None, bytes_eq, slice_get, option_and_then}
+use Rattle.std.specs.List.{position_from}
+use Rattle.declared_features.specs.declared.declaring.Declarations.{Declarations}
+use Rattle.declared_features.specs.declared.manifests.Feature.{Feature}
+use Rattle.declared_features.specs.declared.manifests.Declared.{Declared}
+use Rattle.declared_features.specs.declared.manifests.Manifest.{Manifest}
+
+-- the index of the first feature with a name
+abbrev pub place_of : List Feature → List ℕ → Option ℕ
+place_of features q = position_from (λ f. bytes_eq f.name.now q) 0 features
+
+abbrev pub manifest_at : Declarations → ℕ → Option Manifest
+manifest_at declarations node =
+    option_and_then (λ p. slice_get declarations.manifests.items p) (slice_get declarations.places.items node)
+
+abbrev pub features_in : Option Manifest → List Feature
+features_in None = []
+features_in (Some manifest) = manifest.features.items
+
+abbrev pub dependencies_in : Option Manifest → List Declared
+dependencies_in None = []
+dependencies_in (Some manifest) = manifest.dependencies.items
+
+abbrev pub features_at : Declarations → ℕ → List Feature
+features_at declarations node = features_in (manifest_at declarations node)
+
+abbrev pub dependencies_at : Declarations → ℕ → List Declared
+dependencies_at declarations node = dependencies_in (manifest_at declarations node)
