@@ -1,5 +1,5 @@
 -- Paths of dependencies from a root.
-use Rattle.std.specs.Prelude.{◌≡◌, ◌≤◌, ℕ, IsTrue, List, [], ◌∷◌, ◌++◌, Option, Some, None, length}
+use Rattle.std.specs.Prelude.{◌≡◌, ◌<◌, ◌≤◌, ℕ, IsTrue, List, [], ◌∷◌, ◌++◌, Option, Some, None, length}
 use Rattle.std.specs.List.{slice_get}
 use Rattle.known_targets.specs.Sets.{is_member, place}
 use Rattle.known_targets.specs.declared.known.KnownTarget.{KnownTarget}
@@ -43,6 +43,11 @@ pub data IsPath (packages : List Package) (kinds : Kinds) (host : Option KnownTa
 abbrev pub LeadTo : List Package → Kinds → Option KnownTarget → ℕ → List Step → ℕ → Type 0
 LeadTo packages kinds host k steps p = (side : Side) × IsPath packages kinds host k steps (p, side)
 
+-- no steps lead to the package p, on this side, or without one on either side
+abbrev pub IsUnreached : List Package → Kinds → Option KnownTarget → ℕ → Option Side → ℕ → Type 0
+IsUnreached packages kinds host k None p = (steps : List Step) → LeadTo packages kinds host k steps p → ⊥
+IsUnreached packages kinds host k (Some side) p = (steps : List Step) → IsPath packages kinds host k steps (p, side) → ⊥
+
 -- they lead there, and no fewer steps do
 pub record IsShortest (packages : List Package) (kinds : Kinds) (host : Option KnownTarget) (k : ℕ)
     (steps : List Step) (p : ℕ) : Type 0 where
@@ -64,3 +69,16 @@ IsShortestTo packages kinds host k (Some side) steps p = IsShortestOn packages k
 abbrev pub IsShortestOf : List Package → PathQuery → PathTo → Type 0
 IsShortestOf packages query path =
     IsShortestTo packages query.kinds query.host (place query.at) query.side path.steps.items path.to
+
+-- no steps of the query lead to the package p
+abbrev pub IsUnreachedBy : List Package → PathQuery → ℕ → Type 0
+IsUnreachedBy packages query p = IsUnreached packages query.kinds query.host (place query.at) query.side p
+
+-- a shortest path to each of the packages, in order; those that no steps lead to have none
+pub data AreShortestOf (packages : List Package) (query : PathQuery) : List ℕ → List PathTo → Type 0 where
+  of_none : AreShortestOf packages query [] []
+  of_path : (to : List ℕ) (paths : List PathTo) (path : PathTo) → AreShortestOf packages query to paths
+      → IsShortestOf packages query path → AreShortestOf packages query (to ++ path.to ∷ []) (paths ++ path ∷ [])
+  of_unreached : (to : List ℕ) (paths : List PathTo) (p : ℕ) → AreShortestOf packages query to paths
+      → (p < length packages → IsUnreachedBy packages query p)
+      → AreShortestOf packages query (to ++ p ∷ []) paths

@@ -1,12 +1,13 @@
 //! Shortest dependency paths from a root to a package.
 
-ghost use Rattle.std.specs.Prelude.{◌≡◌, ◌<◌, ◌≤◌, IsTrue, IfOk, IfSome, IfNone, All, length};
+ghost use Rattle.std.specs.Prelude.{◌≡◌, ◌<◌, ◌≤◌, IsTrue, IfOk, IfSome, IfNone, length, None, Some};
 ghost use Rattle.known_targets.specs.Sets.{place};
 ghost use Rattle.package_graphs.specs.Packages.{Sided, StartsOn, dependencies};
-ghost use Rattle.package_graphs.specs.Paths.{Steps, IsShortest, IsShortestOn, IsShortestTo, IsShortestOf};
+ghost use Rattle.package_graphs.specs.Paths.{Steps, IsShortest, IsShortestOn, IsShortestTo};
+ghost use Rattle.package_graphs.specs.Paths.{IsUnreached, AreShortestOf};
 ghost use Rattle.package_graphs.specs.Inside.Numbered.{IsQuestion};
 ghost use Rattle.package_graphs.specs.Inside.Searching.{LeadsAlong, IsStepOf, IsPathOf, Leads, distance, IsWithin};
-ghost use Rattle.package_graphs.specs.Inside.Searching.{IsNear, AreNear};
+ghost use Rattle.package_graphs.specs.Inside.Searching.{IsNear, AreNear, IsFarAway};
 
 use crate::following::is_root;
 use crate::packages::{Dependency, Kinds, Package, Side};
@@ -45,8 +46,9 @@ struct Search<'a> {
 }
 
 /// Returns the steps of a shortest path from a root to the package at index `to`, each along a dependency whose
-/// condition is true on the target. For a root there are no steps. Returns `None` if no path was found. `packages`,
-/// `kinds` and `host` are those of `present_packages`. Fails only if an allocation fails.
+/// condition is true on the target. For a root there are no steps. Returns `None` if no path leads to the package, or
+/// `to` is past the end. `packages`, `kinds` and `host` are those of `present_packages`. Fails only if an allocation
+/// fails.
 pub fn shortest_path(
     alloc: Global,
     packages: &[Package],
@@ -56,8 +58,11 @@ pub fn shortest_path(
     to: usize,
 ) -> Result<Option<Vec<Step>>, AllocError>
     // The steps lead from a root to the package on the target, and no fewer steps do.
-    ensures { IfOk result (λ found. IfSome found
+    ensures shortest { IfOk result (λ found. IfSome found
         (λ steps. IsShortest packages.now kinds host (place at) steps.items to)) }
+    // Without steps, no path leads from a root to the package on the target.
+    ensures none { IfOk result (λ found. IfNone found
+        (to < length packages.now → IsUnreached packages.now kinds host (place at) None to)) }
 {
     let search = Search {
         question: Question::new(kinds, host),
@@ -66,7 +71,7 @@ pub fn shortest_path(
     };
     let spread = search.spread(alloc)?;
     if !search.are_all_near(&spread.distances) {
-        return Ok(None);
+        return Err(AllocError);
     }
     search.path_to(alloc, &spread, None, to)
 }
@@ -82,8 +87,11 @@ pub fn shortest_path_on(
     to: (usize, Side),
 ) -> Result<Option<Vec<Step>>, AllocError>
     // The steps lead from a root to the package on this side, on the target, and no fewer steps do.
-    ensures { IfOk result (λ found. IfSome found
+    ensures shortest { IfOk result (λ found. IfSome found
         (λ steps. IsShortestOn packages.now kinds host (place at) steps.items to)) }
+    // Without steps, no path leads from a root to the package on this side, on the target.
+    ensures none { IfOk result (λ found. IfNone found
+        (to.0 < length packages.now → IsUnreached packages.now kinds host (place at) (Some to.1) to.0)) }
 {
     let search = Search {
         question: Question::new(kinds, host),
@@ -92,7 +100,7 @@ pub fn shortest_path_on(
     };
     let spread = search.spread(alloc)?;
     if !search.are_all_near(&spread.distances) {
-        return Ok(None);
+        return Err(AllocError);
     }
     let (index, side) = to;
     search.path_to(alloc, &spread, Some(side), index)
@@ -116,8 +124,8 @@ pub struct PathTo {
     pub steps: Vec<Step>,
 }
 
-/// Returns a shortest path from a root to each of the packages at these indexes to which one was found, in their order,
-/// as `shortest_path` and `shortest_path_on` do. All are found by one search. Fails only if an allocation fails.
+/// Returns a shortest path from a root to each of the packages at these indexes to which one leads, in their order, as
+/// `shortest_path` and `shortest_path_on` do. All are found by one search. Fails only if an allocation fails.
 pub fn shortest_paths(
     alloc: Global,
     packages: &[Package],
@@ -125,8 +133,8 @@ pub fn shortest_paths(
     to: &[usize],
 ) -> Result<Vec<PathTo>, AllocError>
     // The steps of each path lead from a root to its package on the target, for the side if one is asked for, and no
-    // fewer steps do.
-    ensures { IfOk result (λ paths. All (IsShortestOf packages.now query) paths.items) }
+    // fewer steps do. Each package of `to` has its path, in order, except for those to which no path leads.
+    ensures { IfOk result (λ paths. AreShortestOf packages.now query to.now paths.items) }
 {
     let search = Search {
         question: Question::new(query.kinds, query.host),
@@ -136,7 +144,7 @@ pub fn shortest_paths(
     let spread = search.spread(alloc)?;
     let mut paths = Vec::new(alloc);
     if !search.are_all_near(&spread.distances) {
-        return Ok(paths);
+        return Err(AllocError);
     }
     'packages: for index in to {
         let found = search.path_to(alloc, &spread, query.side, *index)?;
@@ -285,8 +293,10 @@ impl<'a> Search<'a> {
         Ok(())
     }
 
-    /// Returns the steps of a shortest path to the package at an index, on this side, or without one on either side, if
-    /// one was found.
+    /// Returns the steps of a shortest path to the package at an index, on this side, or without one on either side.
+    /// Returns `None` if no path leads there, or the index is past the end. Fails if an allocation fails, or if the
+    /// distances or steps are not those of a search, which is never the case.
+    #[tactic(auto, using(crate::proofs::Distances::none_lead))]
     fn path_to(
         &self,
         alloc: Global,
@@ -296,20 +306,33 @@ impl<'a> Search<'a> {
     ) -> Result<Option<Vec<Step>>, AllocError>
         requires question { IsQuestion self.now.question }
         requires near { AreNear self.now spread.now.distances.items }
-        ensures { IfOk result (λ found. IfSome found (λ steps. IsShortestTo self.now.packages.now
+        ensures shortest { IfOk result (λ found. IfSome found (λ steps. IsShortestTo self.now.packages.now
             self.now.question.kinds self.now.question.host (place self.now.at) side steps.items to)) }
+        ensures none { IfOk result (λ found. IfNone found (to < length self.now.packages.now
+            → IsUnreached self.now.packages.now self.now.question.kinds self.now.question.host (place self.now.at)
+            side to)) }
     {
+        if to >= self.packages.len() {
+            return Ok(None);
+        }
+        if is_unreached(&spread.distances, side, to) {
+            return Ok(None);
+        }
         match side {
             Some(side) => {
                 let steps = spread.steps_to(alloc, (to, side))?;
-                let is_shortest = self.is_shortest_on(&spread.distances, &steps, (to, side));
-                Ok(if is_shortest { Some(steps) } else { None })
+                if !self.is_shortest_on(&spread.distances, &steps, (to, side)) {
+                    return Err(AllocError);
+                }
+                Ok(Some(steps))
             }
             None => {
                 let nearest = spread.nearest_side(to, self.question.host);
                 let steps = spread.steps_to(alloc, (to, nearest))?;
-                let is_shortest = self.is_shortest(&spread.distances, &steps, to);
-                Ok(if is_shortest { Some(steps) } else { None })
+                if !self.is_shortest(&spread.distances, &steps, to) {
+                    return Err(AllocError);
+                }
+                Ok(Some(steps))
             }
         }
     }
@@ -434,7 +457,7 @@ impl<'a> Search<'a> {
     }
 
     /// Returns whether the place has the distance 0 if it is a root, and each place that its dependencies lead to is at
-    /// most one step farther.
+    /// most one step farther, and reached if the place is.
     fn are_near(&self, distances: &[usize], place: Place) -> bool
         requires { IsQuestion self.now.question }
         ensures { IsTrue result → IsNear self.now distances.now place }
@@ -442,6 +465,9 @@ impl<'a> Search<'a> {
         let (index, side) = place;
         let distance = distance_at(distances, place);
         if distance != 0 && self.is_start(index, side) {
+            return false;
+        }
+        if distance == FAR - 1 {
             return false;
         }
         let most = distance.saturating_add(1);
@@ -503,6 +529,19 @@ fn distance_at(distances: &[usize], place: Place) -> usize
     match distances.get(node_of(index, side)) {
         Some(distance) => *distance,
         None => 0,
+    }
+}
+
+/// Returns whether the package at an index was not reached on this side, or without one on either side.
+fn is_unreached(distances: &[usize], side: Option<Side>, to: usize) -> bool
+    ensures { IsTrue result → IsFarAway distances.now side to }
+{
+    match side {
+        Some(side) => distance_at(distances, (to, side)) == FAR,
+        None => {
+            distance_at(distances, (to, Side::Target)) == FAR
+                && distance_at(distances, (to, Side::Host)) == FAR
+        }
     }
 }
 

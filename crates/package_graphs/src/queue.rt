@@ -1,10 +1,10 @@
 //! A queue of the nodes whose edges have to be visited, each at most once.
 
 ghost use Rattle.std.specs.Prelude.{◌≡◌, ◌<◌, ◌+◌, ◌≤◌, ℕ, true, false, not, ◌&&◌, ◌||◌, ◌==◌, IfOk, OnOk, IfNone};
-ghost use Rattle.std.specs.Prelude.{IfSome};
+ghost use Rattle.std.specs.Prelude.{IfSome, [], ◌∷◌, ◌++◌};
 ghost use Rattle.std.specs.Prelude.{length};
 ghost use Rattle.std.specs.VecDeque.{deque_len};
-ghost use Rattle.package_graphs.specs.Inside.Spreading.{waits, IsQueue, node_count};
+ghost use Rattle.package_graphs.specs.Inside.Spreading.{waits, queued, IsQueue, node_count};
 
 use std::alloc::{AllocError, Global};
 use std::collections::VecDeque;
@@ -30,13 +30,15 @@ impl Queue {
         })
     }
 
-    /// Queues a node, unless it is queued already.
+    /// Queues a node behind the others, unless it is queued already.
     pub fn add(&mut self, node: usize) -> Result<(), AllocError>
         requires queue { IsQueue self.old }
         requires known { node < node_count self.old }
         ensures queue { OnOk result (IsQueue self.new) }
         ensures count { node_count self.new ≡ node_count self.old }
         ensures waits { OnOk result ((n : ℕ) → waits self.new n ≡ ((n == node) || waits self.old n)) }
+        ensures last { OnOk result (waits self.old node ≡ false → queued self.new ≡ queued self.old ++ node ∷ []) }
+        ensures again { OnOk result (waits self.old node ≡ true → queued self.new ≡ queued self.old) }
         ensures work { deque_len self.new.nodes ≤ deque_len self.old.nodes + 1 }
     {
         if !self.waiting[node] {
@@ -56,6 +58,7 @@ impl Queue {
         ensures known { IfSome result (λ node. node < node_count self.old) }
         ensures was { IfSome result (λ node. waits self.old node ≡ true) }
         ensures waits { IfSome result (λ node. (n : ℕ) → waits self.new n ≡ (not (n == node) && waits self.old n)) }
+        ensures first { IfSome result (λ node. queued self.old ≡ node ∷ queued self.new) }
         ensures work { IfSome result (λ node. deque_len self.new.nodes + 1 ≡ deque_len self.old.nodes) }
     {
         let node = self.nodes.pop_front()?;

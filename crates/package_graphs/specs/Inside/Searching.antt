@@ -1,10 +1,12 @@
 -- The knowledge during a search for a path, of the packages and the target of the search.
-use Rattle.std.specs.Prelude.{◌≡◌, ◌<◌, ◌≤◌, ◌+◌, ℕ, List, length, All}
+use Rattle.std.specs.Prelude.{◌≡◌, ◌<◌, ◌≤◌, ◌+◌, ◌-◌, ◌^◌, ℕ, List, Option, Some, None, length, All}
 use Rattle.std.specs.List.{slice_index_or}
 use Rattle.known_targets.specs.Sets.{place}
 use Rattle.package_graphs.specs.Packages.{Sided, node_of, dependencies, StartsOn}
 use Rattle.package_graphs.specs.Paths.{LeadsBy, IsStep, IsPath, LeadTo}
 use Rattle.package_graphs.specs.declared.packages.Dependency.{Dependency}
+use Rattle.package_graphs.specs.declared.packages.Side.{Side}
+use Rattle.package_graphs.specs.declared.packages.Side.TheVariants.{Target, Host}
 use Rattle.package_graphs.specs.declared.paths.Step.{Step}
 use Rattle.package_graphs.specs.declared.paths.Search.{Search}
 
@@ -28,11 +30,22 @@ abbrev pub IsWithin : Search → List ℕ → Sided → ℕ → Dependency → T
 IsWithin s ds m most d =
     (n : Sided) → LeadsAlong s d m n → n.0 < length s.packages.now → distance ds n ≤ most
 
--- a root has the distance 0, and the place that a dependency of m leads to is at most one step farther than m
+-- the distance of a place that was not reached
+abbrev pub FAR_AWAY : ℕ
+FAR_AWAY = 2 ^ 64 - 1
+
+-- a root has the distance 0, and the place that a dependency of m leads to is at most one step farther than m, which is
+-- reached if m is
 pub record IsNear (s : Search) (ds : List ℕ) (m : Sided) : Type 0 where
   pub root : StartsOn s.packages.now m → distance ds m ≡ 0
   pub next : All (λ d. IsWithin s ds m (distance ds m + 1) d) (dependencies s.packages.now m.0)
+  pub reached : distance ds m < FAR_AWAY → distance ds m + 1 < FAR_AWAY
 
 -- each place is at most one step farther than those before it
 abbrev pub AreNear : Search → List ℕ → Type 0
 AreNear s ds = (n : Sided) → n.0 < length s.packages.now → IsNear s ds n
+
+-- the package p was not reached on this side, or without one on either side
+abbrev pub IsFarAway : List ℕ → Option Side → ℕ → Type 0
+IsFarAway ds None p = (distance ds (p, Target) ≡ FAR_AWAY) × (distance ds (p, Host) ≡ FAR_AWAY)
+IsFarAway ds (Some side) p = distance ds (p, side) ≡ FAR_AWAY

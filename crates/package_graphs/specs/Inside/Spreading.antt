@@ -12,6 +12,10 @@ use Rattle.package_graphs.specs.declared.queue.Queue.{Queue}
 abbrev pub waits : Queue → ℕ → Bool
 waits queue n = slice_index_or queue.waiting.items n false
 
+-- the queued nodes, those that were queued first before the others
+abbrev pub queued : Queue → List ℕ
+queued queue = queue.nodes.items
+
 abbrev pub node_count : Queue → ℕ
 node_count queue = length queue.waiting.items
 
