@@ -1,3 +1,4 @@
 pub mod Elements
+pub mod Refused
 pub mod Indexing
 pub mod Adding

@@ -1,10 +1,11 @@
 -- A whole document.
-use Rattle.std.specs.Prelude.{◌≡◌, ℕ, Bool, true, false, List, Some, codes, is_some}
+use Rattle.std.specs.Prelude.{◌≡◌, ℕ, Bool, true, false, List, ◌∷◌, ◌++◌, Some, All, codes, is_some}
 use Rattle.std.specs.Borrow.{Bor}
 use Rattle.serde_json.specs.Data.{Data}
 use Rattle.serde_json.specs.Find.{get, as_str, as_object}
-use Rattle.cargo_metadata.specs.Fields.{fits, IsWrongIn, wanted_of_document, wanted_of_package, wanted_of_resolve}
-use Rattle.cargo_metadata.specs.Rows.{AreRowsAt, IsElementAt}
+use Rattle.cargo_metadata.specs.Fields.{fits, Field, Fits, IsWrong, IsAt, IsFirstWrong}
+use Rattle.cargo_metadata.specs.Fields.{fields_of_document, fields_of_package, fields_of_resolve}
+use Rattle.cargo_metadata.specs.Rows.{AreRowsAt, HasRowsAt, IsFirstAt}
 use Rattle.cargo_metadata.specs.Packages.{IsPackage}
 use Rattle.cargo_metadata.specs.Nodes.{IsNode, IsInNode}
 use Rattle.cargo_metadata.specs.declared.metadata.Metadata.{Metadata}
@@ -39,20 +40,45 @@ pub record IsMetadata (d : Data) (m : Metadata) : Type 0 where
   pub members : AreRowsAt IsMember (codes "workspace_members") d m.members.items
   pub nodes : InsideResolve d (λ resolve. AreRowsAt IsNode (codes "nodes") resolve m.nodes.items)
 
--- ---- why it is rejected
+-- ---- why it is rejected: the first error
 
 abbrev pub IsInResolve : Data → InResolve → Type 0
-IsInResolve d (in_resolve.Field wrong) = IsWrongIn wanted_of_resolve d wrong
-IsInResolve d (in_resolve.Node i wrong) = IsElementAt (λ e. IsInNode e wrong) (codes "nodes") i d
+IsInResolve d (in_resolve.Field wrong) = IsFirstWrong fields_of_resolve d wrong
+IsInResolve d (in_resolve.Node i wrong) = IsFirstAt IsNode (λ e. IsInNode e wrong) (codes "nodes") i d
 IsInResolve d (in_resolve.Memory error) = Unit {0}
 
-abbrev pub IsRefused : Data → Refusal → Type 0
-IsRefused d (refusals.Field wrong) = IsWrongIn wanted_of_document d wrong
-IsRefused d (refusals.Package i wrong) =
-    IsElementAt (λ e. IsWrongIn wanted_of_package e wrong) (codes "packages") i d
-IsRefused d (refusals.Member i) = IsElementAt (λ e. is_some (as_str e) ≡ false) (codes "workspace_members") i d
-IsRefused d (refusals.Resolve wrong) = InsideResolve d (λ resolve. IsInResolve resolve wrong)
-IsRefused d (refusals.Memory error) = Unit {0}
+-- the error is in this field
+abbrev pub IsIn : Field → Refusal → Type 0
+IsIn field (refusals.Field wrong) = IsAt field.0 field.1 wrong
+IsIn field (refusals.Package i wrong) = field.0 ≡ codes "packages"
+IsIn field (refusals.Member i) = field.0 ≡ codes "workspace_members"
+IsIn field (refusals.Resolve wrong) = field.0 ≡ codes "resolve"
+IsIn field (refusals.Memory error) = Unit {0}
+
+-- it is the first error in its field
+abbrev pub IsFault : Data → Refusal → Type 0
+IsFault d (refusals.Field wrong) = IsWrong d wrong
+IsFault d (refusals.Package i wrong) =
+    IsFirstAt IsPackage (λ e. IsFirstWrong fields_of_package e wrong) (codes "packages") i d
+IsFault d (refusals.Member i) = IsFirstAt IsMember (λ e. is_some (as_str e) ≡ false) (codes "workspace_members") i d
+IsFault d (refusals.Resolve wrong) = InsideResolve d (λ resolve. IsInResolve resolve wrong)
+IsFault d (refusals.Memory error) = Unit {0}
+
+-- the value of the field is as expected, and so is each element, if it is the list of packages or of members
+pub record IsWhole (d : Data) (field : Field) : Type 0 where
+  pub itself : Fits d field
+  pub packages : field.0 ≡ codes "packages" → HasRowsAt IsPackage (codes "packages") d
+  pub members : field.0 ≡ codes "workspace_members" → HasRowsAt IsMember (codes "workspace_members") d
+
+-- the error is the first one in its field, and the fields before it have none
+pub record IsRefused (d : Data) (refusal : Refusal) : Type 0 where
+  pub before : List Field
+  pub field : Field
+  pub after : List Field
+  pub order : fields_of_document ≡ before ++ field ∷ after
+  pub whole : All (IsWhole d) before
+  pub within : IsIn field refusal
+  pub fault : IsFault d refusal
 
 -- ---- whether memory is the reason
 

@@ -1,6 +1,6 @@
 -- The values of the fields of an object.
-use Rattle.std.specs.Prelude.{◌≡◌, ℕ, Bool, false, cond, ◌==◌, List, [], ◌∷◌, Option, Some, None, codes}
-use Rattle.std.specs.Prelude.{◌||◌, bytes_eq}
+use Rattle.std.specs.Prelude.{◌≡◌, ℕ, Bool, true, false, cond, ◌==◌, List, [], ◌∷◌, ◌++◌, Option, Some, None, codes}
+use Rattle.std.specs.Prelude.{All, bytes_eq}
 use Rattle.std.specs.Prelude.{option_map, option_and_then, is_some}
 use Rattle.serde_json.specs.Data.{Data, null, boolean, number, string, array, object, Items, no_items, item}
 use Rattle.serde_json.specs.Find.{get, as_str, as_array, as_object, as_number, as_u64}
@@ -66,38 +66,40 @@ IsWrong d wrong = fits wrong.wanted (get wrong.field.now d) ≡ false
 abbrev pub IsAt : List ℕ → Wanted → Wrong → Type 0
 IsAt field what wrong = (wrong.field.now ≡ field) × (wrong.wanted ≡ what)
 
--- ---- the expected values of the fields
+-- ---- the fields, in the order in which they are read
 
-abbrev pub wanted_of_document : List ℕ → Option Wanted
-wanted_of_document field =
-    cond (bytes_eq field (codes "version")) (Some wanted.One)
-    (cond (bytes_eq field (codes "packages") || bytes_eq field (codes "workspace_members")) (Some wanted.List)
-    (cond (bytes_eq field (codes "resolve")) (Some wanted.Resolve) None))
+-- a field, and the value that is expected in it
+abbrev pub Field : Type 0
+Field = List ℕ × Wanted
 
-abbrev pub wanted_of_package : List ℕ → Option Wanted
-wanted_of_package field =
-    cond (bytes_eq field (codes "id") || bytes_eq field (codes "name") || bytes_eq field (codes "version"))
-    (Some wanted.Text) None
+abbrev pub fields_of_document : List Field
+fields_of_document =
+    (codes "version", wanted.One) ∷ (codes "packages", wanted.List) ∷ (codes "workspace_members", wanted.List)
+    ∷ (codes "resolve", wanted.Resolve) ∷ []
 
-abbrev pub wanted_of_resolve : List ℕ → Option Wanted
-wanted_of_resolve field = cond (bytes_eq field (codes "nodes")) (Some wanted.List) None
+abbrev pub fields_of_package : List Field
+fields_of_package = (codes "id", wanted.Text) ∷ (codes "name", wanted.Text) ∷ (codes "version", wanted.Text) ∷ []
 
-abbrev pub wanted_of_node : List ℕ → Option Wanted
-wanted_of_node field =
-    cond (bytes_eq field (codes "id")) (Some wanted.Text)
-    (cond (bytes_eq field (codes "deps")) (Some wanted.List) None)
+abbrev pub fields_of_resolve : List Field
+fields_of_resolve = (codes "nodes", wanted.List) ∷ []
 
-abbrev pub wanted_of_dependency : List ℕ → Option Wanted
-wanted_of_dependency field =
-    cond (bytes_eq field (codes "pkg")) (Some wanted.Text)
-    (cond (bytes_eq field (codes "dep_kinds")) (Some wanted.List) None)
+abbrev pub fields_of_node : List Field
+fields_of_node = (codes "id", wanted.Text) ∷ (codes "deps", wanted.List) ∷ []
 
-abbrev pub wanted_of_kind : List ℕ → Option Wanted
-wanted_of_kind field =
-    cond (bytes_eq field (codes "kind")) (Some wanted.Kind)
-    (cond (bytes_eq field (codes "target")) (Some wanted.Condition) None)
+abbrev pub fields_of_dependency : List Field
+fields_of_dependency = (codes "pkg", wanted.Text) ∷ (codes "dep_kinds", wanted.List) ∷ []
 
--- a field with this expected value has another one, or none
-pub record IsWrongIn (wanted_of : List ℕ → Option Wanted) (d : Data) (wrong : Wrong) : Type 0 where
-  pub table : wanted_of wrong.field.now ≡ Some wrong.wanted
+abbrev pub fields_of_kind : List Field
+fields_of_kind = (codes "kind", wanted.Kind) ∷ (codes "target", wanted.Condition) ∷ []
+
+-- the value of the field is as expected
+abbrev pub Fits : Data → Field → Type 0
+Fits d field = fits field.1 (get field.0 d) ≡ true
+
+-- the error is about the first of these fields without the expected value
+pub record IsFirstWrong (fields : List Field) (d : Data) (wrong : Wrong) : Type 0 where
+  pub before : List Field
+  pub after : List Field
+  pub order : fields ≡ before ++ (wrong.field.now, wrong.wanted) ∷ after
+  pub fit : All (Fits d) before
   pub misfits : IsWrong d wrong

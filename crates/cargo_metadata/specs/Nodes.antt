@@ -1,11 +1,11 @@
 -- Nodes and their dependencies, as objects have them.
-use Rattle.std.specs.Prelude.{◌≡◌, ℕ, List, Option, Some, codes}
+use Rattle.std.specs.Prelude.{◌≡◌, ℕ, List, Option, Some, All, codes}
 use Rattle.std.specs.Option.{option_copied}
 use Rattle.serde_json.specs.Data.{Data}
 use Rattle.serde_json.specs.Find.{get}
-use Rattle.cargo_metadata.specs.Fields.{kind_in, condition_in, text_at, IsWrongIn}
-use Rattle.cargo_metadata.specs.Fields.{wanted_of_node, wanted_of_dependency, wanted_of_kind}
-use Rattle.cargo_metadata.specs.Rows.{AreRowsAt, IsElementAt}
+use Rattle.cargo_metadata.specs.Fields.{kind_in, condition_in, text_at, Fits, IsFirstWrong}
+use Rattle.cargo_metadata.specs.Fields.{fields_of_node, fields_of_dependency, fields_of_kind}
+use Rattle.cargo_metadata.specs.Rows.{AreRowsAt, IsFirstAt}
 use Rattle.cargo_metadata.specs.declared.nodes.Kind.{Kind}
 use Rattle.cargo_metadata.specs.declared.nodes.KindRow.{KindRow}
 use Rattle.cargo_metadata.specs.declared.nodes.Dependency.{Dependency}
@@ -34,15 +34,17 @@ pub record IsNode (d : Data) (node : Node) : Type 0 where
   pub id : text_at (codes "id") d ≡ Some node.id.now
   pub dependencies : AreRowsAt IsDependency (codes "deps") d node.dependencies.items
 
--- ---- why they are rejected
+-- ---- why they are rejected: the first error
 
 abbrev pub IsInDependency : Data → InDependency → Type 0
-IsInDependency d (in_dependency.Field wrong) = IsWrongIn wanted_of_dependency d wrong
+IsInDependency d (in_dependency.Field wrong) = IsFirstWrong fields_of_dependency d wrong
 IsInDependency d (in_dependency.Kind i wrong) =
-    IsElementAt (λ e. IsWrongIn wanted_of_kind e wrong) (codes "dep_kinds") i d
+    All (Fits d) fields_of_dependency
+    × IsFirstAt IsKindRow (λ e. IsFirstWrong fields_of_kind e wrong) (codes "dep_kinds") i d
 IsInDependency d (in_dependency.Memory error) = Unit {0}
 
 abbrev pub IsInNode : Data → InNode → Type 0
-IsInNode d (in_node.Field wrong) = IsWrongIn wanted_of_node d wrong
-IsInNode d (in_node.Dependency i wrong) = IsElementAt (λ e. IsInDependency e wrong) (codes "deps") i d
+IsInNode d (in_node.Field wrong) = IsFirstWrong fields_of_node d wrong
+IsInNode d (in_node.Dependency i wrong) =
+    All (Fits d) fields_of_node × IsFirstAt IsDependency (λ e. IsInDependency e wrong) (codes "deps") i d
 IsInNode d (in_node.Memory error) = Unit {0}

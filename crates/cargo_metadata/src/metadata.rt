@@ -3,12 +3,12 @@
 ghost use Rattle.std.specs.Prelude.{◌≡◌, MatchResult, Some, true, codes};
 ghost use Rattle.serde_json.specs.View.{view};
 ghost use Rattle.serde_json.specs.Find.{get};
-ghost use Rattle.cargo_metadata.specs.Fields.{fits, IsWrongIn, wanted_of_document};
+ghost use Rattle.cargo_metadata.specs.Fields.{fits, IsWrong, IsAt};
 ghost use Rattle.cargo_metadata.specs.Rows.{AreRowsAt};
 ghost use Rattle.cargo_metadata.specs.Packages.{IsPackage};
 ghost use Rattle.cargo_metadata.specs.Nodes.{IsNode};
 ghost use Rattle.cargo_metadata.specs.Documents.{IsMember, IsInResolve, IsMetadata, IsVersionOne, IsResolve};
-ghost use Rattle.cargo_metadata.specs.Documents.{IsRefused};
+ghost use Rattle.cargo_metadata.specs.Documents.{IsRefused, IsFault, IsIn};
 
 use crate::fields::{field_at, wanted_list};
 use crate::nodes::{Node, node_of};
@@ -54,7 +54,7 @@ pub fn read<'a>(alloc: Global, document: &'a Value) -> Result<Metadata<'a>, Refu
 /// Checks that the version is 1.
 fn check_version(document: &Value) -> Result<(), Wrong>
     ensures { MatchResult result (λ _. IsVersionOne (view document.now))
-        (λ wrong. IsWrongIn wanted_of_document (view document.now) wrong) }
+        (λ wrong. IsWrong (view document.now) wrong × IsAt (codes "version") Wanted.One wrong) }
 {
     let wrong = Wrong {
         field: "version",
@@ -73,7 +73,7 @@ fn check_version(document: &Value) -> Result<(), Wrong>
 /// Returns the value of `resolve`.
 fn resolve_at<'a>(document: &'a Value) -> Result<&'a Value, Wrong>
     ensures { MatchResult result (λ resolve. IsResolve (view document.now) (view resolve.now))
-        (λ wrong. IsWrongIn wanted_of_document (view document.now) wrong) }
+        (λ wrong. IsWrong (view document.now) wrong × IsAt (codes "resolve") Wanted.Resolve wrong) }
 {
     let wrong = Wrong {
         field: "resolve",
@@ -93,7 +93,7 @@ fn resolve_at<'a>(document: &'a Value) -> Result<&'a Value, Wrong>
 /// Reads the packages.
 fn packages_at<'a>(alloc: Global, document: &'a Value) -> Result<Vec<Package<'a>>, Refusal>
     ensures { MatchResult result (λ ps. AreRowsAt IsPackage (codes "packages") (view document.now) ps.items)
-        (λ refusal. IsRefused (view document.now) refusal) }
+        (λ refusal. IsFault (view document.now) refusal × IsIn (codes "packages", Wanted.List) refusal) }
 {
     let items = match wanted_list(document, "packages") {
         Ok(items) => items,
@@ -115,7 +115,7 @@ fn packages_at<'a>(alloc: Global, document: &'a Value) -> Result<Vec<Package<'a>
 /// Reads the ids of the workspace's members.
 fn members_at<'a>(alloc: Global, document: &'a Value) -> Result<Vec<&'a str>, Refusal>
     ensures { MatchResult result (λ ms. AreRowsAt IsMember (codes "workspace_members") (view document.now) ms.items)
-        (λ refusal. IsRefused (view document.now) refusal) }
+        (λ refusal. IsFault (view document.now) refusal × IsIn (codes "workspace_members", Wanted.List) refusal) }
 {
     let items = match wanted_list(document, "workspace_members") {
         Ok(items) => items,

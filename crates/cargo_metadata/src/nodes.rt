@@ -1,9 +1,9 @@
 //! The nodes of a document's graph, and their dependencies.
 
-ghost use Rattle.std.specs.Prelude.{◌≡◌, MatchResult, Some};
+ghost use Rattle.std.specs.Prelude.{◌≡◌, MatchResult, Some, codes};
 ghost use Rattle.std.specs.Option.{option_copied};
 ghost use Rattle.serde_json.specs.View.{view};
-ghost use Rattle.cargo_metadata.specs.Fields.{IsWrongIn, wanted_of_kind};
+ghost use Rattle.cargo_metadata.specs.Fields.{IsWrong, IsAt, IsFirstWrong, fields_of_kind};
 ghost use Rattle.cargo_metadata.specs.Nodes.{kind_at, condition_at, IsKindRow, IsDependency, IsNode};
 ghost use Rattle.cargo_metadata.specs.Nodes.{IsInDependency, IsInNode};
 
@@ -46,7 +46,7 @@ pub struct Node<'a> {
 /// Returns the kind of a dependency: normal if the field is missing or null.
 fn kind_of(value: &Value) -> Result<Kind, Wrong>
     ensures { MatchResult result (λ kind. kind_at (view value.now) ≡ Some kind)
-        (λ wrong. IsWrongIn wanted_of_kind (view value.now) wrong) }
+        (λ wrong. IsWrong (view value.now) wrong × IsAt (codes "kind") Wanted.Kind wrong) }
 {
     let wrong = Wrong {
         field: "kind",
@@ -70,7 +70,7 @@ fn kind_of(value: &Value) -> Result<Kind, Wrong>
 /// Returns the condition of a dependency: `None` if the field is missing or null.
 fn condition_of<'a>(value: &'a Value) -> Result<Option<&'a str>, Wrong>
     ensures { MatchResult result (λ text. condition_at (view value.now) ≡ Some (option_copied text))
-        (λ wrong. IsWrongIn wanted_of_kind (view value.now) wrong) }
+        (λ wrong. IsWrong (view value.now) wrong × IsAt (codes "target") Wanted.Condition wrong) }
 {
     let found = match field_at(value, "target") {
         None => return Ok(None),
@@ -88,10 +88,10 @@ fn condition_of<'a>(value: &'a Value) -> Result<Option<&'a str>, Wrong>
     }
 }
 
-/// Reads a kind and its condition from an object.
+/// Reads a kind and its condition from an object. Fails at the first of the two that is not as expected.
 fn kind_row<'a>(value: &'a Value) -> Result<KindRow<'a>, Wrong>
     ensures { MatchResult result (λ row. IsKindRow (view value.now) row)
-        (λ wrong. IsWrongIn wanted_of_kind (view value.now) wrong) }
+        (λ wrong. IsFirstWrong fields_of_kind (view value.now) wrong) }
 {
     let kind = kind_of(value)?;
     let condition = condition_of(value)?;

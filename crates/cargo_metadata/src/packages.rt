@@ -2,7 +2,7 @@
 
 ghost use Rattle.std.specs.Prelude.{◌≡◌, MatchResult};
 ghost use Rattle.serde_json.specs.View.{view};
-ghost use Rattle.cargo_metadata.specs.Fields.{IsWrongIn, wanted_of_package};
+ghost use Rattle.cargo_metadata.specs.Fields.{IsFirstWrong, fields_of_package};
 ghost use Rattle.cargo_metadata.specs.Packages.{IsPackage, is_private, is_macro, has_macro_kind, is_macro_kind};
 
 use crate::fields::{list_at, text_at, wanted_text};
@@ -23,10 +23,11 @@ pub struct Package<'a> {
     pub is_macro: bool,
 }
 
-/// Reads a package from an object. Fails if its id, name or version is not a text.
+/// Reads a package from an object. Fails at the first of its id, name and version that is
+/// not a text.
 pub fn package_of<'a>(value: &'a Value) -> Result<Package<'a>, Wrong>
     ensures { MatchResult result (λ p. IsPackage (view value.now) p)
-        (λ wrong. IsWrongIn wanted_of_package (view value.now) wrong) }
+        (λ wrong. IsFirstWrong fields_of_package (view value.now) wrong) }
 {
     let id = wanted_text(value, "id")?;
     let name = wanted_text(value, "name")?;

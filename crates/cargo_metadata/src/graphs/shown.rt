@@ -8,7 +8,7 @@ impl Display for InDependency {
         match self {
             InDependency::NoNode => write!(f, ".pkg: no node has this id"),
             InDependency::Condition(i, _) => {
-                write!(f, ".dep_kinds[{i}].target: the text spells no condition")
+                write!(f, ".dep_kinds[{i}].target: invalid condition")
             }
             InDependency::Memory(error) => write!(f, ": {error}"),
         }

@@ -1,6 +1,8 @@
-use Rattle.std.proofs.Common.{sym}
+use Rattle.std.proofs.Common.{sym, ap, refl, List, ℕ, Option}
+use Rattle.std.specs.Option.{is_some}
+use Rattle.serde_json.specs.View.{view}
 use Rattle.cargo_metadata.specs.Documents.{IsMember}
-use Rattle.cargo_metadata.proofs.Elements.{rows_none, rows_more}
+use Rattle.cargo_metadata.proofs.Elements.{rows_none, rows_more, first_at}
 use Rattle.cargo_metadata.proofs.metadata.members_at.Goals as goal
 
 pub members-init : goal.members-init
@@ -12,3 +14,11 @@ members-preserved c =
     c.push.new.self.items
     c.in-Some.id c.members-test.true c.index-items-i.is c.in_default.ensures.items
     c.members.invariant (sym c.in-Some.ensures)
+
+pub returns-in-None : goal.returns-in-None
+returns-in-None c = (
+  first_at IsMember _ _ (view c.args.document.now) c.in-Ok.items.now c.members.i c.index-items-i.result
+      c.members.members.items c.in-Ok.ensures c.members-test.true c.index-items-i.is c.members.invariant
+      (ap (λ (o : Option (List ℕ)). is_some o) (sym c.in-None.ensures)),
+  refl,
+)
