@@ -26,7 +26,7 @@ pub same_fronts : {A : Type 0} (xs ys us vs : List A) → xs ++ ys ≡ us ++ vs 
 same_fronts xs ys us vs same size =
     same_ends xs ys us vs same (omega (arith, ap length same, length-append xs ys, length-append us vs, size))
 
-same_number : (a b : ℕ) → a < 2 ^ 64 → b < 2 ^ 64 → to_le_bytes w64 a ≡ to_le_bytes w64 b → a ≡ b
+pub same_number : (a b : ℕ) → a < 2 ^ 64 → b < 2 ^ 64 → to_le_bytes w64 a ≡ to_le_bytes w64 b → a ≡ b
 same_number a b small other same =
     sym (from_le_bytes-to_le_bytes_8 a small) ∙ ap (from_le_bytes w64) same ∙ from_le_bytes-to_le_bytes_8 b other
 

@@ -7,3 +7,5 @@ pub mod Pieces
 pub mod Answers
 pub mod Comparisons
 pub mod Laws
+pub mod Prepared
+pub mod Truths

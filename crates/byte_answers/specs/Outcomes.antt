@@ -44,3 +44,10 @@ ends_flat_print code = code == DONE || code == NOT_FLAT || code == NO_MEMORY || 
 
 abbrev pub ends_target_call : ℕ → Bool
 ends_target_call code = code == DONE || code == NOT_UTF8 || code == NO_MEMORY || code == UNKNOWN_TARGET
+
+-- a call on lines of facts alone
+abbrev pub ends_fact_call : ℕ → Bool
+ends_fact_call code = code == DONE || code == REFUSED || code == NOT_UTF8 || code == NO_MEMORY
+
+abbrev pub ends_prepared_call : ℕ → Bool
+ends_prepared_call code = code == DONE || code == NOT_FLAT || code == NO_MEMORY

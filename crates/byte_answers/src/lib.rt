@@ -13,10 +13,13 @@ mod known;
 pub mod laws;
 mod matching;
 mod outcome;
+mod prepared;
+mod prepared_calls;
 mod reading;
 mod relations;
 mod release;
 mod trees;
+mod truths;
 mod unflat;
 
 pub use depth::{MOST_FLAT_BYTES, MOST_OPEN, is_too_deep};
@@ -27,6 +30,7 @@ pub use outcome::{
     DONE, NO_MEMORY, NOT_FLAT, NOT_UTF8, Outcome, REFUSED, TOO_DEEP, UNDECIDED, UNKNOWN_TARGET,
     write,
 };
+pub use prepared_calls::{prepare_facts, prepared_matches};
 pub use relations::{Relation, can_hold, relates};
 pub use release::{VERSION, version};
 pub use trees::{flat_matches, flat_print};

@@ -33,30 +33,36 @@ fn span_in_lines(error: &FactsError, lines: &str) -> Range<usize>
 }
 
 /// Returns the outcome of rejected facts, with the message in the buffer and the span of the error in their text.
-fn refused_facts(alloc: Global, error: &FactsError, lines: &str, out: &mut [u8]) -> Outcome
+pub(crate) fn refused_facts(
+    alloc: Global,
+    argument: u32,
+    error: &FactsError,
+    lines: &str,
+    out: &mut [u8],
+) -> Outcome
     requires { IsErrorOfLines lines.now error.now }
     ensures refused { result.code ≡ REFUSED → IsRefusedLine lines.now result out.old out.new }
     ensures silent { result.code ≢ REFUSED → IsSilent result out.old out.new }
-    ensures argument { result.argument ≡ LINES }
+    ensures argument { result.argument ≡ argument }
     ensures holds { HasNoAnswer result }
     ensures span { result.code ≢ REFUSED → HasNoSpan result }
     ensures codes { IsTrue (result.code == REFUSED || result.code == NO_MEMORY) }
 {
     if let FactsError::Memory(_) = error {
-        return Outcome::ended(NO_MEMORY, LINES);
+        return Outcome::ended(NO_MEMORY, argument);
     }
     let span = span_in_lines(error, lines);
     match error.to_string(alloc) {
         Ok(message) => Outcome {
             code: REFUSED,
-            argument: LINES,
+            argument,
             holds: false,
             is_named: false,
             needed: write(message.as_bytes(), out),
             start: span.start,
             end: span.end,
         },
-        Err(_) => Outcome::ended(NO_MEMORY, LINES),
+        Err(_) => Outcome::ended(NO_MEMORY, argument),
     }
 }
 
@@ -81,7 +87,7 @@ fn match_lines(
 {
     match read_facts(alloc, lines) {
         Ok(facts) => Outcome::answered(platform.matches(name, &facts)),
-        Err(error) => refused_facts(alloc, &error, lines, out),
+        Err(error) => refused_facts(alloc, LINES, &error, lines, out),
     }
 }
 

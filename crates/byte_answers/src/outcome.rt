@@ -1,7 +1,7 @@
 //! The outcomes of calls, and the texts that they write into a buffer.
 
 ghost use Rattle.std.specs.Prelude.{◌≡◌, false};
-ghost use Rattle.byte_answers.specs.Outcomes.{IsWritten};
+ghost use Rattle.byte_answers.specs.Outcomes.{HasNoAnswer, HasNoSpan, IsWritten};
 
 /// The call has an answer.
 pub const DONE: u32 = 0;
@@ -9,7 +9,7 @@ pub const DONE: u32 = 0;
 pub const REFUSED: u32 = 1;
 /// A text is not UTF-8.
 pub const NOT_UTF8: u32 = 2;
-/// The bytes are not a flat condition, or not flat facts.
+/// The bytes are not a flat condition, not flat facts, or not prepared facts.
 pub const NOT_FLAT: u32 = 3;
 /// An allocation failed.
 pub const NO_MEMORY: u32 = 4;
@@ -86,6 +86,25 @@ impl Outcome {
             needed,
             start: 0,
             end: 0,
+        }
+    }
+
+    /// Returns the outcome of a call that rejects the text at index `argument`, and writes the reason.
+    pub fn refused(argument: u32, reason: &str, out: &mut [u8]) -> Outcome
+        // The result has the length of the reason. A buffer that has as many bytes begins with the reason; all other
+        // bytes are unchanged.
+        ensures written { IsWritten reason.now result.needed out.old out.new }
+        ensures code { result.code ≡ REFUSED }
+        ensures argument { result.argument ≡ argument }
+        // `holds` and `is_named` are false.
+        ensures holds { HasNoAnswer result }
+        // `start` and `end` are 0.
+        ensures span { HasNoSpan result }
+    {
+        Outcome {
+            code: REFUSED,
+            argument,
+            ..Outcome::done(write(reason.as_bytes(), out))
         }
     }
 

@@ -19,15 +19,15 @@ use std::str;
 
 /// The numbers at the end of bytes, and the bytes before them.
 #[derive(Clone, Copy, Drop)]
-struct Numbers<'a> {
-    before: &'a [u8],
-    a: usize,
-    b: usize,
-    tag: u8,
+pub(crate) struct Numbers<'a> {
+    pub(crate) before: &'a [u8],
+    pub(crate) a: usize,
+    pub(crate) b: usize,
+    pub(crate) tag: u8,
 }
 
 /// Splits off the last number.
-fn last_number(bytes: &[u8]) -> Option<(&[u8], usize)>
+pub(crate) fn last_number(bytes: &[u8]) -> Option<(&[u8], usize)>
     ensures { MatchOption result (length bytes.now < 8)
         (λ p. (bytes.now ≡ p.0.now ++ to_le_bytes w64 p.1) × (p.1 < 2 ^ 64)) }
 {
@@ -36,7 +36,7 @@ fn last_number(bytes: &[u8]) -> Option<(&[u8], usize)>
 }
 
 /// Splits off the numbers and the tag at the end.
-fn last_numbers(bytes: &[u8]) -> Option<Numbers<'_>>
+pub(crate) fn last_numbers(bytes: &[u8]) -> Option<Numbers<'_>>
     ensures { MatchOption result (length bytes.now < 17)
         (λ n. (bytes.now ≡ n.before.now ++ numbers n.a n.b n.tag) × (n.a < 2 ^ 64) × (n.b < 2 ^ 64)) }
 {
@@ -52,7 +52,7 @@ fn last_numbers(bytes: &[u8]) -> Option<Numbers<'_>>
 }
 
 /// Splits off the last `size` bytes.
-fn last_bytes(bytes: &[u8], size: usize) -> Option<(&[u8], &[u8])>
+pub(crate) fn last_bytes(bytes: &[u8], size: usize) -> Option<(&[u8], &[u8])>
     ensures { MatchOption result (length bytes.now < size)
         (λ p. (bytes.now ≡ p.0.now ++ p.1.now) × (length p.1.now ≡ size)) }
 {

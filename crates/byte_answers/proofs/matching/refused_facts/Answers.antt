@@ -34,7 +34,7 @@ returns-in-Ok-clause-refused c = λ refused.
     line_refused c.args.lines.now c.args.out.now c.write.new.out c.as_bytes.result.now (string_bytes c.in-Ok.message)
     (record {
       code = 1;
-      argument = 2;
+      argument = c.args.argument;
       holds = false;
       is_named = false;
       needed = c.write.result;
