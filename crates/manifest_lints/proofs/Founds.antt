@@ -106,8 +106,8 @@ module _ (k : Known) (ds : List DeclaredEntry) (r : ReadKey) (key : KnownKey) (k
       (named : NamesRightly k es (condition_of p) a.earlier)
       (none_missed : is_equivalent a.earlier ≡ false → a.is_open ≡ false → MissesNone k es ns (condition_of p))
       (left_open : IsTrue a.is_open → MayBeOpen k ds es r.text.now (condition_of p)) where
-    asked_is : sorted_by key.asked.items ≡ sorted_in ds (condition_of p)
-    asked_is = known.asked ∙ ap (sorted_of_spelled ds) is
+    asked_is : sorted_by key.predicates.items ≡ sorted_in ds (condition_of p)
+    asked_is = known.predicates ∙ ap (sorted_of_spelled ds) is
 
     found : Found
     found = record { key = key; answers = a }
@@ -150,8 +150,8 @@ module _ (k : Known) (ds : List DeclaredEntry) (r : ReadKey) (key : KnownKey) (k
     unspelled : Found
     unspelled = record { key = key; answers = NONE }
 
-    none_asked : sorted_by key.asked.items ≡ []
-    none_asked = known.asked ∙ ap (sorted_of_spelled ds) is ∙ nothing_asked ds s none
+    none_asked : sorted_by key.predicates.items ≡ []
+    none_asked = known.predicates ∙ ap (sorted_of_spelled ds) is ∙ nothing_asked ds s none
 
     of_unspelled : (c : Code) → HoldsUnspelled (is_refused s) (entry_read r) c (found_codes unspelled c)
     unfolding unspelled

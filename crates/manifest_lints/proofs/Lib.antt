@@ -8,6 +8,7 @@ pub mod Samples
 pub mod Numbers
 pub mod Classes
 pub mod Reports
+pub mod Lengths
 pub mod Rustcs
 pub mod Founds
 pub mod MoreSames

@@ -20,7 +20,7 @@ use Rattle.manifest_lints.specs.Truths.{budget_of}
 use Rattle.manifests.specs.Declarations.{DeclaredEntry}
 use Rattle.manifests.specs.Entries.{Entry}
 use Rattle.manifest_lints_standings.specs.Standings.{sorted_in}
-use Rattle.manifest_lints.specs.Reports.{MayBeOpen, too_deep, few_beside, many_before}
+use Rattle.manifest_lints.specs.Reports.{MayBeOpen, AreTooLong, too_deep, few_beside, many_before, long_before}
 use Rattle.manifest_lints.specs.Sames.{HasOne, IsOneAt, IsSpelledAt, AreMembers}
 use Rattle.manifest_lints.proofs.MoreSames.{at_has, at_more, at_last, at_so}
 
@@ -105,14 +105,18 @@ module _ (k : Known) (es : List Entry) (old : Keys) (c : Condition) (before : Ar
   right_true false b h = absurd (true≢false (sym h))
 
   -- why it is not known how a key stands to these
-  pub open_beside : (ds : List DeclaredEntry) (text : List ℕ) (budget : Option ℕ) (decides undecided : Bool) (n : ℕ)
-      → MatchOption budget ((decides ≡ true) ⊎ IsNestedBeyond text LEVELS) (λ splits. splits ≡ budget_of n)
-      → n ≡ length (sorted_in ds c) → (IsTrue undecided → MayBeUndecided k budget old c)
+  pub open_beside : (ds : List DeclaredEntry) (text : List ℕ) (budget : Option ℕ) (decides much undecided : Bool)
+      (n : ℕ)
+      → MatchOption budget ((decides ≡ true) ⊎ (IsTrue much ⊎ IsNestedBeyond text LEVELS))
+      (λ splits. splits ≡ budget_of n)
+      → (IsTrue much → AreTooLong es text) → n ≡ length (sorted_in ds c) → (IsTrue undecided
+      → MayBeUndecided k budget old c)
       → (undecided && not decides) ≡ true → MayBeOpen k ds es text c
-  open_beside ds text None decides undecided n (inl decided) long told is =
+  open_beside ds text None decides much undecided n (inl decided) so long told is =
       absurd (true≢false (sym (right_true undecided (not decides) is) ∙ ap not decided))
-  open_beside ds text None decides undecided n (inr deep) long told is = too_deep deep
-  open_beside ds text (Some splits) decides undecided n budget long told is =
+  open_beside ds text None decides much undecided n (inr (inl far)) so long told is = long_before (so far)
+  open_beside ds text None decides much undecided n (inr (inr deep)) so long told is = too_deep deep
+  open_beside ds text (Some splits) decides much undecided n budget so long told is =
       elim (told (left_true undecided (not decides) is)) [
         | inl few ↦
             few_beside (subst (λ b. HasOne (λ d. NeedsMore k (asked_trees (d ∷ c ∷ [])) b) es)

@@ -161,7 +161,7 @@ all_codes p n i cs other key init new done =
 pub one_told : (fs gs : List Finding) (f : Finding) (b : Bool) (m : Mark) (other : List ℕ) (key : KnownKey)
     → gs ≡ fs ++ f ∷ []
     → mark f ≡ m → b ≡ true → NamesKey m.1 other (string_bytes f.message)
-    → f.level ≡ finding_level m.1 (length key.asked.items)
+    → f.level ≡ finding_level m.1 (length key.predicates.items)
     → Shows m.1 key (string_bytes f.message)
     → Mentions (noted_texts m.1 key) (said f.children.notes.items)
     → Mentions (help_texts m.1 key f.suggestion) (said f.children.helps.items)

@@ -3,7 +3,7 @@ use Rattle.std.specs.Prelude.{◌≡◌, [], ◌∷◌, codes, map}
 use Rattle.partial_facts.specs.declared.one_valued.TheConstants.{ONE_VALUED}
 use Rattle.manifest_lints.specs.declared.at_targets.TheConstants.{MANY, SPLITS_AT}
 use Rattle.manifest_lints.specs.declared.deciding.TheConstants.{FEW, LEVELS}
-use Rattle.manifest_lints.specs.declared.earlier.TheConstants.{MOST}
+use Rattle.manifest_lints.specs.declared.earlier.TheConstants.{MOST, WORK}
 
 -- the keys for which rustc sets at most one value
 abbrev pub AreOneValued : Type 0
@@ -20,9 +20,9 @@ AreMany = MANY ≡ 4096
 abbrev pub AreLevels : Type 0
 AreLevels = LEVELS ≡ 20000
 
--- the number of keys before one that are not too many
+-- the number of keys before one that are not too many, and its product with their bytes
 abbrev pub AreCompared : Type 0
-AreCompared = MOST ≡ 64
+AreCompared = (MOST ≡ 64) × (WORK ≡ 1048576)
 
 -- the number of facts of a condition that are few, and of case splits on a known target
 abbrev pub AreFewAt : Type 0

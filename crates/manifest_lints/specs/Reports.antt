@@ -1,5 +1,5 @@
 -- The results for the keys of a manifest, lint by lint, and the diagnostics that are reported on them.
-use Rattle.std.specs.Prelude.{◌≡◌, ◌<◌, ◌⊎◌, ◌↔◌, ℕ, Bool, true, false, not, IsTrue, List}
+use Rattle.std.specs.Prelude.{◌≡◌, ◌<◌, ◌+◌, ◌*◌, sum_by, ◌⊎◌, ◌↔◌, ℕ, Bool, true, false, not, IsTrue, List}
 use Rattle.std.specs.Prelude.{[], ◌∷◌, ◌++◌, map, length, get_or, cond, bytes_eq, string_bytes, Option, Some, None}
 use Rattle.std.specs.Prelude.{IfSome}
 use Rattle.std.specs.List.{All}
@@ -33,7 +33,7 @@ use Rattle.manifest_lints_findings.specs.Spells.{SpellsNothing, IsRead, entry_re
 pub use Rattle.manifest_lints.specs.Rustcs.{IsRustcs, AllowsRustcs}
 use Rattle.manifest_lints.specs.declared.deciding.TheConstants.{LEVELS}
 use Rattle.manifest_lints.specs.declared.at_targets.TheConstants.{MANY}
-use Rattle.manifest_lints.specs.declared.earlier.TheConstants.{MOST}
+use Rattle.manifest_lints.specs.declared.earlier.TheConstants.{MOST, WORK}
 use Rattle.manifest_lints.specs.declared.earlier.Earlier.{Earlier}
 use Rattle.manifest_lints.specs.declared.earlier.Earlier.TheVariants.{Unlike}
 use Rattle.manifest_lints.specs.AtTargets.{SettlesOn}
@@ -57,9 +57,17 @@ SettlesPlaces truth ds c b = SettlesOn truth (length (sorted_in ds c)) (open_in 
 abbrev pub budget_in : List DeclaredEntry → Condition → ℕ
 budget_in ds c = budget_of (length (sorted_in ds c))
 
+-- the number of bytes of some keys
+abbrev pub bytes_of : List Entry → ℕ
+bytes_of es = sum_by (λ e. length e.0) es
+
+-- the keys before one with this text are too many to be compared, for as many bytes as they all have
+abbrev pub AreTooLong : List Entry → List ℕ → Type 0
+AreTooLong es text = WORK < length es * (bytes_of es + length text)
+
 -- the reason why something may be left open about a key after others that is a condition: too many parentheses are
 -- nested, or too many names and keys are open; there are too few case splits for the condition, or for comparing it
--- with that of a key before it; or there are too many keys before it
+-- with that of a key before it; or there are too many keys before it, or too many for so many bytes
 pub data MayBeOpen (k : Known) (ds : List DeclaredEntry) (es : List Entry) (text : List ℕ) (c : Condition) : Type 0
   where
     too_deep : IsNestedBeyond text LEVELS → MayBeOpen k ds es text c
@@ -67,6 +75,7 @@ pub data MayBeOpen (k : Known) (ds : List DeclaredEntry) (es : List Entry) (text
     few_splits : NeedsMoreFor k c (budget_in ds c) → MayBeOpen k ds es text c
     few_beside : HasOne (λ d. NeedsMore k (asked_trees (d ∷ c ∷ [])) (budget_in ds c)) es → MayBeOpen k ds es text c
     many_before : MOST < length es → MayBeOpen k ds es text c
+    long_before : AreTooLong es text → MayBeOpen k ds es text c
 
 -- whether a lint applies to a key after others that is a condition, about which something is left open or not, given
 -- the knowledge about each target and the declarations
@@ -146,7 +155,7 @@ pub record IsKnownOf (ds : List DeclaredEntry) (e : Entry) (key : KnownKey) : Ty
 -- properties; its notes have Cargo's warnings, and its helps the suggestion; it has the position of the key's error if
 -- the key is rejected; and it has a suggestion only if the lint reports nothing on that
 pub record IsDiagnosticOn (c : Code) (key : KnownKey) (f : Finding) : Type 0 where
-  pub level : f.level ≡ finding_level c (length key.asked.items)
+  pub level : f.level ≡ finding_level c (length key.predicates.items)
   pub message : Shows c key (string_bytes f.message)
   pub notes : Mentions (noted_texts c key) (said f.children.notes.items)
   pub helps : Mentions (help_texts c key f.suggestion) (said f.children.helps.items)

@@ -1,6 +1,6 @@
 //! The relation of a key to those before it: the same condition, or an equivalent one.
 
-ghost use Rattle.std.specs.Prelude.{◌≡◌, None, [], IfOk, OnOk, IsTrue};
+ghost use Rattle.std.specs.Prelude.{◌≡◌, ◌<◌, ◌*◌, None, [], IfOk, OnOk, IsTrue};
 ghost use Rattle.std.specs.Borrow.{Bor};
 ghost use Rattle.cargo_platform.specs.declared.Platform.{Platform as Shown};
 ghost use Rattle.cargo_platform.specs.Trees.{Expression, tree_of, condition_of};
@@ -21,6 +21,19 @@ use std::collections::BTreeMap;
 
 /// The maximum number of keys of its class that a key is compared with.
 pub const MOST: usize = 64;
+
+/// The maximum product of the number of keys before a key and the bytes of them and the key, for which the key is
+/// compared with others. So all comparisons together read a bounded number of bytes. Real manifests stay far below it.
+pub const WORK: usize = 1_048_576;
+
+/// Returns whether a key is not compared with the `count` keys before it, because there are too many of them for so
+/// many
+/// bytes.
+pub fn is_too_much(count: usize, bytes: usize) -> bool
+    ensures { IsTrue result → WORK < count * bytes }
+{
+    count.saturating_mul(bytes) > WORK
+}
 
 /// The relation of a key to the earlier ones.
 #[derive(Clone, Copy, Debug, PartialEq, Eq, Drop)]
@@ -274,12 +287,12 @@ impl<'a> Keys<'a> {
         let Some(splits) = budget else {
             return Ok(Earlier::Undecided);
         };
-        let mut asked: usize = 0;
+        let mut compared: usize = 0;
         'places: for place in places {
-            if asked == MOST && self.members.len() > MOST {
+            if compared == MOST && self.members.len() > MOST {
                 return Ok(Earlier::Undecided);
             }
-            asked = asked.saturating_add(1);
+            compared = compared.saturating_add(1);
             let Some((first, other)) = self.members.get(*place) else {
                 continue;
             };

@@ -18,7 +18,7 @@ ghost use Rattle.manifest_lints.specs.declared.at_targets.TheConstants.{MANY};
 ghost use Rattle.manifest_lints.specs.declared.deciding.TheConstants.{LEVELS};
 ghost use Rattle.manifest_lints.specs.Founds.{found_codes, AnswersFor};
 ghost use Rattle.manifest_lints.specs.Missed.{AreCovered};
-ghost use Rattle.manifest_lints.specs.Reports.{IsFound, MayBeOpen, left_open};
+ghost use Rattle.manifest_lints.specs.Reports.{IsFound, MayBeOpen, AreTooLong, left_open};
 ghost use Rattle.manifest_lints.specs.Sames.{AreNoted, AreMembers};
 
 use crate::at_targets::{MANY, places};
@@ -29,7 +29,7 @@ use exact_answers::Known;
 use manifest_lints_findings::Code;
 use manifest_lints_findings::known_keys::KnownKey;
 use manifest_lints_findings::readings::{ReadKey, Spelled};
-use manifest_lints_standings::asked_facts::open_names;
+use manifest_lints_standings::key_predicates::open_names;
 use manifests::Declared;
 use std::alloc::{AllocError, Global};
 
@@ -40,6 +40,8 @@ pub struct Asking<'a> {
     pub declared: &'a Declared<'a>,
     /// The knowledge of the facts of each target.
     pub known: &'a Known<'a>,
+    /// Whether the keys so far are too many and too long to be compared.
+    pub is_too_much: bool,
 }
 
 /// The answers about a key, over sets of facts and compared with the keys before it.
@@ -117,9 +119,9 @@ fn answers_alone<'a>(
         → IfOk result (λ a. IsTrue a.is_open → MayBeOpen asking.now.known.now (declarations_of asking.now.declared.now)
         es key.now.read.now.text.now (condition_of condition.now)) }
 {
-    let open = open_names(alloc, &key.asked)?;
-    let (nowhere, everywhere) = places(alloc, condition, &open, key.asked.len())?;
-    let budget = budget_for(key.asked.len());
+    let open = open_names(alloc, &key.predicates)?;
+    let (nowhere, everywhere) = places(alloc, condition, &open, key.predicates.len())?;
+    let budget = budget_for(key.predicates.len());
     let may_ask = may_ask(key.levels, key.read.text);
     let (never, always, unknown) = asked(alloc, condition, asking.known, budget, may_ask)?;
     Ok(Answers {
@@ -140,17 +142,21 @@ fn are_many(open: &[&str]) -> bool
 }
 
 /// Returns the maximum number of case splits for comparing a key with another one, or `None` if they are not compared.
-fn budget_beside(key: &KnownKey<'_>, decides: bool) -> Option<u64>
-    ensures { MatchOption result ((decides ≡ true) ⊎ IsNestedBeyond key.now.read.now.text.now LEVELS)
-        (λ splits. splits ≡ budget_of (length key.now.asked.items)) }
+fn budget_beside(key: &KnownKey<'_>, decides: bool, is_too_much: bool) -> Option<u64>
+    ensures { MatchOption result
+        ((decides ≡ true) ⊎ (IsTrue is_too_much ⊎ IsNestedBeyond key.now.read.now.text.now LEVELS))
+        (λ splits. splits ≡ budget_of (length key.now.predicates.items)) }
 {
     if decides {
+        return None;
+    }
+    if is_too_much {
         return None;
     }
     if !may_ask(key.levels, key.read.text) {
         return None;
     }
-    Some(budget_for(key.asked.len()))
+    Some(budget_for(key.predicates.len()))
 }
 
 /// Returns whether it stays open how a key relates to those before it: this is not known, and nothing hides it.
@@ -174,6 +180,7 @@ fn answers_of<'a>(
         (condition_of condition.now) a) }
     ensures left_open { (IsKnown (declarations_of asking.now.declared.now) key.now.read.now key.now)
         → key.now.read.now.spelled ≡ Spelled.Condition condition.now → (es : List Entry) → AreMembers es before.old
+        → (IsTrue asking.now.is_too_much → AreTooLong es key.now.read.now.text.now)
         → IfOk result (λ a. IsTrue a.is_open → MayBeOpen asking.now.known.now (declarations_of asking.now.declared.now)
         es key.now.read.now.text.now (condition_of condition.now)) }
     ensures same { IfOk result (λ a. same_place a.earlier ≡ noted before.old condition.entry) }
@@ -191,7 +198,7 @@ fn answers_of<'a>(
 {
     let mut answers = answers_alone(alloc, asking, key, condition)?;
     let decides = answers.never || answers.always;
-    let budget = budget_beside(key, decides);
+    let budget = budget_beside(key, decides, asking.is_too_much);
     let known = asking.known;
     answers.earlier = before.add(alloc, key.place, condition, known, budget)?;
     let is_open = stays_open(answers.earlier, decides);
@@ -220,7 +227,8 @@ pub fn found_of<'a>(
     ensures place { IfOk result (λ f. f.key.place ≡ place) }
     ensures known { IfOk result (λ f. IsKnown (declarations_of asking.now.declared.now) read.now f.key) }
     ensures found { IsRead read.now → (es : List Entry) → length es ≡ place → AreNoted es before.old
-        → AreMembers es before.old → (ns : List ℕ) → AreCovered asking.now.known.now es ns before.old
+        → AreMembers es before.old → (IsTrue asking.now.is_too_much → AreTooLong es read.now.text.now)
+        → (ns : List ℕ) → AreCovered asking.now.known.now es ns before.old
         → IfOk result (λ f. IsFound asking.now.known.now
         (declarations_of asking.now.declared.now) es ns (entry_read read.now) (found_codes f) f.answers.earlier
         f.answers.is_open × AreNoted (es ++ entry_read read.now ∷ []) before.new

@@ -1,6 +1,6 @@
 //! The diagnostics on the keys of a manifest.
 
-ghost use Rattle.std.specs.Prelude.{◌≡◌, ◌<◌, ◌++◌, IfOk, OnOk, IfSome, List, [], map, length, get_or};
+ghost use Rattle.std.specs.Prelude.{◌≡◌, ◌<◌, ◌≤◌, ◌+◌, ◌++◌, IfOk, OnOk, IfSome, List, [], map, length, get_or};
 ghost use Rattle.std.specs.List.{All};
 ghost use Rattle.manifests.specs.Declarations.{DeclaredEntry, IsDeclaredBy, declarations_of};
 ghost use Rattle.manifests.specs.Entries.{Entry};
@@ -12,7 +12,7 @@ ghost use Rattle.toml.specs.View.{table_view};
 ghost use Rattle.manifest_lints.specs.Reports.{entry_of, AreFindingsOn, AreFindings, IsReport};
 ghost use Rattle.manifests.specs.Tables.{target_of};
 
-use crate::earlier::{Earlier, Keys};
+use crate::earlier::{Earlier, Keys, is_too_much};
 use crate::found::{Asking, Found, found_of};
 use exact_answers::{Known, ONE_VALUED, family_rule};
 use manifest_lints_findings::findings::target_is_no_table;
@@ -105,6 +105,13 @@ fn read_keys<'a>(alloc: Global, keys: &[TargetKey<'a>]) -> Result<Vec<ReadKey<'a
     Ok(read)
 }
 
+/// Returns the number of bytes of some keys and of one more, or the greatest number.
+fn bytes_with(bytes: usize, text: &str) -> usize
+    ensures { result ≤ bytes + length text.now }
+{
+    bytes.saturating_add(text.len())
+}
+
 /// Returns the diagnostics on the parsed keys, and the indexes of the keys about which an answer is not known.
 fn findings_on<'a>(
     alloc: Global,
@@ -119,8 +126,15 @@ fn findings_on<'a>(
     let mut findings = Vec::new(alloc);
     let mut undecided = Vec::new(alloc);
     let mut before = Keys::new(alloc);
+    let mut bytes = 0;
     'keys: for (place, key) in read.iter().enumerate() {
-        let found = found_of(alloc, asking, place, key, &mut before)?;
+        bytes = bytes_with(bytes, key.text);
+        let asking = Asking {
+            declared: asking.declared,
+            known: asking.known,
+            is_too_much: is_too_much(place, bytes),
+        };
+        let found = found_of(alloc, &asking, place, key, &mut before)?;
         let other = earlier_key(read, found.answers.earlier);
         note_undecided(&found, &mut undecided)?;
         add_findings(alloc, words, &found, other, &mut findings)?;
@@ -152,6 +166,7 @@ fn report_on<'a>(
     let asking = Asking {
         declared: &declared,
         known: &known,
+        is_too_much: false,
     };
     let read = read_keys(alloc, keys)?;
     let (findings, undecided) = findings_on(alloc, words, &asking, &read)?;

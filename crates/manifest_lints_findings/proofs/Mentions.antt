@@ -8,7 +8,7 @@ use Rattle.std.specs.List.{join_by}
 use Rattle.std.proofs.lemmas.List.{append-nil, take-map, length-map}
 use Rattle.std.proofs.lemmas.List.Folds.{flat_map-map}
 use Rattle.known_targets.specs.declared.table.TheConstants.{RUSTC_VERSION}
-use Rattle.manifest_lints_standings.specs.declared.asked_facts.AskedFact.{AskedFact}
+use Rattle.manifest_lints_standings.specs.declared.key_predicates.KeyPredicate.{KeyPredicate}
 use Rattle.manifest_lints_findings.specs.Chosen.{fact_text}
 use Rattle.manifest_lints_findings.specs.Messages.{listing, listing_of_version, said}
 use Rattle.manifest_lints_findings.specs.Texts.{StandsIn, Mentions, FollowsIn, and_more, joined_first}
@@ -113,15 +113,15 @@ one_said ts all t is h = subst (λ us. Mentions ts (said us)) (sym is) (mentions
 
 -- ---- lists behind rustc's version
 
-pub of_version : (fs : List AskedFact) (m : List ℕ) → Mentions (RUSTC_VERSION.now ∷ listing fs) m
+pub of_version : (fs : List KeyPredicate) (m : List ℕ) → Mentions (RUSTC_VERSION.now ∷ listing fs) m
     → Mentions (listing_of_version fs) m
 of_version [] m h = tt
 of_version (f ∷ fs) m h = h
 
-pub none_of_version : (fs : List AskedFact) (m : List ℕ) → length fs ≡ 0 → Mentions (listing_of_version fs) m
+pub none_of_version : (fs : List KeyPredicate) (m : List ℕ) → length fs ≡ 0 → Mentions (listing_of_version fs) m
 none_of_version [] m h = tt
 none_of_version (f ∷ fs) m h = absurd (omega arith)
 
-pub listed_shown : (fs : List AskedFact) (m : List ℕ) → m ≡ joined_first fact_text (codes ", ") fs
+pub listed_shown : (fs : List KeyPredicate) (m : List ℕ) → m ≡ joined_first fact_text (codes ", ") fs
     → Mentions (listing fs) m
 listed_shown fs m is = subst (Mentions (listing fs)) (sym is) (mentions_listed fact_text (codes ", ") fs)

@@ -4,7 +4,7 @@ use Rattle.std.specs.List.{filter}
 use Rattle.cargo_platform.specs.Trees.{CfgValue, Alone, KeyPair, value_of}
 use Rattle.cargo_platform.specs.Print.{print_value}
 use Rattle.cargo_platform.specs.Warnings.{attribute_warning}
-use Rattle.manifest_lints_standings.specs.declared.asked_facts.AskedFact.{AskedFact}
+use Rattle.manifest_lints_standings.specs.declared.key_predicates.KeyPredicate.{KeyPredicate}
 use Rattle.manifest_lints_standings.specs.declared.standing.Standing.{Standing}
 use Rattle.manifest_lints_standings.specs.declared.standing.Standing.TheVariants as standing
 use Rattle.manifest_lints_standings.specs.Standings.{is_sort, sort_in}
@@ -28,7 +28,7 @@ is_feature (KeyPair k v) = bytes_eq k.name (codes "target_feature")
 
 -- the first of its kind in the key, and of a category, or the name `r#true` or `r#false`; set only by unstable features
 -- of rustc, or not; and a feature of an architecture, or not
-abbrev pub is_chosen : Choice → AskedFact → Bool
+abbrev pub is_chosen : Choice → KeyPredicate → Bool
 is_chosen (choice.OfSort s) f = f.is_first && is_sort (sort_in f.standing) s
 is_chosen choice.Literal f = f.is_first && is_marked_literal (value_of f.fact.now)
 is_chosen choice.Unstable f = is_unstable f.standing
@@ -37,18 +37,18 @@ is_chosen choice.Feature f = is_feature (value_of f.fact.now)
 is_chosen choice.NoFeature f = not (is_feature (value_of f.fact.now))
 
 -- the selected ones, in their order
-abbrev pub chosen : Choice → List AskedFact → List AskedFact
+abbrev pub chosen : Choice → List KeyPredicate → List KeyPredicate
 chosen c fs = filter (is_chosen c) fs
 
 -- a name or pair in backquotes
 abbrev pub quoted_value : CfgValue → List ℕ
 quoted_value c = quoted_text (print_value c)
 
-abbrev pub fact_text : AskedFact → List ℕ
+abbrev pub fact_text : KeyPredicate → List ℕ
 fact_text f = quoted_value (value_of f.fact.now)
 
 -- Cargo's warnings on them; the warning on pairs occurs once, and `is_said` tells whether it has occurred
-abbrev pub warnings_on : Bool → List AskedFact → List (List ℕ)
+abbrev pub warnings_on : Bool → List KeyPredicate → List (List ℕ)
 warnings_on is_said [] = []
 warnings_on is_said (f ∷ fs) =
     cond (is_pair (value_of f.fact.now) && is_said) [] (attribute_warning (value_of f.fact.now))

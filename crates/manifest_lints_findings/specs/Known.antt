@@ -58,7 +58,7 @@ IsUnknownSpelled (spelled.Refused e) = ⊥
 pub record IsKnown (ds : List DeclaredEntry) (r : ReadKey) (k : KnownKey) : Type 0 where
   pub read : k.read.now ≡ r
   pub tables : is_empty_list k.no_tables.items ≡ not (is_no_table (entry_read r).1)
-  pub asked : sorted_by k.asked.items ≡ sorted_of_spelled ds r.spelled
+  pub predicates : sorted_by k.predicates.items ≡ sorted_of_spelled ds r.spelled
   pub canonical : string_bytes k.canonical ≡ print_spelled r.spelled
   pub unknown_target : IsTrue k.is_unknown_target ↔ IsUnknownSpelled r.spelled
 
@@ -66,11 +66,11 @@ pub record IsKnown (ds : List DeclaredEntry) (r : ReadKey) (k : KnownKey) : Type
 abbrev pub holds_alone : KnownKey → CodeSet
 holds_alone k code.Refused = is_refused k.read.now.spelled
 holds_alone k code.NoTable = not (is_empty_list k.no_tables.items)
-holds_alone k code.ReadOtherwise = is_by_cargo k.read.now.spelled || has_marked_literal (sorted_by k.asked.items)
-holds_alone k code.Unsupported = has_sort sort.Unsupported (sorted_by k.asked.items)
+holds_alone k code.ReadOtherwise = is_by_cargo k.read.now.spelled || has_marked_literal (sorted_by k.predicates.items)
+holds_alone k code.Unsupported = has_sort sort.Unsupported (sorted_by k.predicates.items)
 holds_alone k code.UnknownTarget = k.is_unknown_target
-holds_alone k code.UnknownFact = has_sort sort.Mistaken (sorted_by k.asked.items)
-holds_alone k code.Custom = has_sort sort.Custom (sorted_by k.asked.items)
+holds_alone k code.UnknownFact = has_sort sort.Mistaken (sorted_by k.predicates.items)
+holds_alone k code.Custom = has_sort sort.Custom (sorted_by k.predicates.items)
 holds_alone k code.NotCanonical =
     is_condition k.read.now.spelled && not (bytes_eq (string_bytes k.canonical) k.read.now.text.now)
 holds_alone k _ = false

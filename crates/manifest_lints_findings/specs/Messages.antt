@@ -9,7 +9,7 @@ use Rattle.cargo_platform.specs.Errors.{fault_in}
 use Rattle.cargo_platform.specs.declared.error.ParseError.{ParseError}
 use Rattle.cargo_platform.specs.Print.{print_fault}
 use Rattle.known_targets.specs.declared.table.TheConstants.{RUSTC_VERSION}
-use Rattle.manifest_lints_standings.specs.declared.asked_facts.AskedFact.{AskedFact}
+use Rattle.manifest_lints_standings.specs.declared.key_predicates.KeyPredicate.{KeyPredicate}
 use Rattle.manifest_lints_standings.specs.declared.standing.Sort.TheVariants as sort
 use Rattle.manifest_lints_findings.specs.Chosen.{chosen, fact_text, warnings_on}
 use Rattle.manifest_lints_findings.specs.Texts.{shown_whole, shown_cut, quoted_text, EndsWith, Mentions, and_more}
@@ -32,20 +32,20 @@ NamesKey _ key message = Unit {0}
 -- ---- what is shown of the key itself
 
 -- the first names and pairs in backquotes, and the number of the others
-abbrev pub listing : List AskedFact → List (List ℕ)
+abbrev pub listing : List KeyPredicate → List (List ℕ)
 listing fs = first_texts fact_text fs
 
 -- the same after rustc's version, if there are some
-abbrev pub listing_of_version : List AskedFact → List (List ℕ)
+abbrev pub listing_of_version : List KeyPredicate → List (List ℕ)
 listing_of_version [] = []
 listing_of_version (f ∷ fs) = RUSTC_VERSION.now ∷ listing (f ∷ fs)
 
 -- the mistaken names and pairs, those that are not features first
-abbrev pub mistakes_in : List AskedFact → List (List ℕ)
+abbrev pub mistakes_in : List KeyPredicate → List (List ℕ)
 mistakes_in fs = listing_of_version (chosen choice.NoFeature fs) ++ listing_of_version (chosen choice.Feature fs)
 
 -- the custom ones, those that only unstable features set last
-abbrev pub custom_in : List AskedFact → List (List ℕ)
+abbrev pub custom_in : List KeyPredicate → List (List ℕ)
 custom_in fs = listing_of_version (chosen choice.Stable fs) ++ listing_of_version (chosen choice.Unstable fs)
 
 -- a key that begins with `cfg(` and does not end with `)`
@@ -68,7 +68,7 @@ abbrev pub cargo_words : Marked → List ℕ
 cargo_words m = shown_whole (join_by (λ s. string_bytes s) (codes " ") (take TOLD m.warnings.items) ++ and_more m.count)
 
 -- the names that lose their raw mark, unless only Cargo accepts the key
-abbrev pub read_otherwise : Spelled → List AskedFact → List (List ℕ)
+abbrev pub read_otherwise : Spelled → List KeyPredicate → List (List ℕ)
 read_otherwise (spelled.ByCargo m) fs = []
 read_otherwise (spelled.Condition p) fs = listing (chosen choice.Literal fs)
 read_otherwise (spelled.Refused e) fs = listing (chosen choice.Literal fs)
@@ -80,7 +80,7 @@ cargo_noted (spelled.Condition p) = []
 cargo_noted (spelled.Refused e) = []
 
 -- Cargo's warnings on names and pairs that do not select dependencies
-abbrev pub unsupported_in : List AskedFact → List ℕ
+abbrev pub unsupported_in : List KeyPredicate → List ℕ
 unsupported_in fs = shown_whole (joined_first (λ t. t) (codes " ") (warnings_on false fs))
 
 -- the text that may be meant
@@ -92,13 +92,13 @@ meant_shown None = []
 abbrev pub shown_texts : Code → KnownKey → List (List ℕ)
 shown_texts code.Refused k = fault_shown k.read.now.text.now k.read.now.spelled
 shown_texts code.NoTable k = first_texts (λ s. string_bytes s) k.no_tables.items
-shown_texts code.ReadOtherwise k = read_otherwise k.read.now.spelled k.asked.items
-shown_texts code.Unsupported k = listing (chosen (choice.OfSort sort.Unsupported) k.asked.items)
+shown_texts code.ReadOtherwise k = read_otherwise k.read.now.spelled k.predicates.items
+shown_texts code.Unsupported k = listing (chosen (choice.OfSort sort.Unsupported) k.predicates.items)
 shown_texts code.UnknownTarget k = RUSTC_VERSION.now ∷ []
-shown_texts code.UnknownFact k = mistakes_in (chosen (choice.OfSort sort.Mistaken) k.asked.items)
+shown_texts code.UnknownFact k = mistakes_in (chosen (choice.OfSort sort.Mistaken) k.predicates.items)
 shown_texts code.Nowhere k = RUSTC_VERSION.now ∷ []
 shown_texts code.Everywhere k = RUSTC_VERSION.now ∷ []
-shown_texts code.Custom k = custom_in (chosen (choice.OfSort sort.Custom) k.asked.items)
+shown_texts code.Custom k = custom_in (chosen (choice.OfSort sort.Custom) k.predicates.items)
 shown_texts _ k = []
 
 -- the message contains these texts in this order
@@ -113,7 +113,7 @@ said ts = flat_map (λ t. string_bytes t) ts
 -- the texts in the notes: Cargo's warnings
 abbrev pub noted_texts : Code → KnownKey → List (List ℕ)
 noted_texts code.ReadOtherwise k = cargo_noted k.read.now.spelled
-noted_texts code.Unsupported k = unsupported_in (chosen (choice.OfSort sort.Unsupported) k.asked.items) ∷ []
+noted_texts code.Unsupported k = unsupported_in (chosen (choice.OfSort sort.Unsupported) k.predicates.items) ∷ []
 noted_texts _ k = []
 
 -- the texts in the helps: the canonical form of a key that is not in it, and else what can replace the key

@@ -6,7 +6,7 @@ ghost use Rattle.manifest_lints_findings.specs.Chosen.{is_unstable, is_feature, 
 ghost use Rattle.manifest_lints_findings.specs.Known.{is_marked_literal};
 
 use cargo_platform::Cfg;
-use manifest_lints_standings::asked_facts::AskedFact;
+use manifest_lints_standings::key_predicates::KeyPredicate;
 use manifest_lints_standings::standing::{Sort, Standing};
 use std::alloc::{AllocError, Global};
 
@@ -55,29 +55,29 @@ pub fn is_marked_literal(fact: &Cfg) -> bool
 }
 
 /// Returns whether the selection includes a name or pair.
-fn is_chosen(choice: Choice, asked: &AskedFact<'_>) -> bool
-    ensures { result ≡ is_chosen choice asked.now }
+fn is_chosen(choice: Choice, predicate: &KeyPredicate<'_>) -> bool
+    ensures { result ≡ is_chosen choice predicate.now }
 {
     match choice {
-        Choice::OfSort(sort) => asked.is_first && asked.standing.sort().is(sort),
-        Choice::Literal => asked.is_first && is_marked_literal(asked.fact),
-        Choice::Unstable => is_unstable(asked.standing),
-        Choice::Stable => !is_unstable(asked.standing),
-        Choice::Feature => is_feature(asked.fact),
-        Choice::NoFeature => !is_feature(asked.fact),
+        Choice::OfSort(sort) => predicate.is_first && predicate.standing.sort().is(sort),
+        Choice::Literal => predicate.is_first && is_marked_literal(predicate.fact),
+        Choice::Unstable => is_unstable(predicate.standing),
+        Choice::Stable => !is_unstable(predicate.standing),
+        Choice::Feature => is_feature(predicate.fact),
+        Choice::NoFeature => !is_feature(predicate.fact),
     }
 }
 
 /// Returns the selected names and pairs, in their order. Fails if memory is refused.
 pub fn chosen<'a>(
     alloc: Global,
-    asked: &[AskedFact<'a>],
+    predicates: &[KeyPredicate<'a>],
     choice: Choice,
-) -> Result<Vec<AskedFact<'a>>, AllocError>
-    ensures { IfOk result (λ found. found.items ≡ chosen choice asked.now) }
+) -> Result<Vec<KeyPredicate<'a>>, AllocError>
+    ensures { IfOk result (λ found. found.items ≡ chosen choice predicates.now) }
 {
     let mut found = Vec::new(alloc);
-    'asked: for each in asked {
+    'predicates: for each in predicates {
         if is_chosen(choice, each) {
             found.push(*each)?;
         }

@@ -54,7 +54,7 @@ pub fn target_is_no_table(alloc: Global) -> Result<Finding, AllocError>
         level: Code::NoTable.row().level,
         code: Code::NoTable,
         key: None,
-        message: String::from_str(alloc, "`target` is no table")?,
+        message: String::from_str(alloc, "`target` is not a table")?,
         children: Children::none(alloc),
         suggestion: None,
         span: None,

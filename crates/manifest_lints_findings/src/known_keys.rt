@@ -14,7 +14,7 @@ use crate::codes::Code;
 use crate::no_tables::no_tables;
 use crate::readings::{ReadKey, Spelled};
 use cargo_platform::{Platform, values_with_levels};
-use manifest_lints_standings::asked_facts::{AskedFact, asked_facts, has_sort};
+use manifest_lints_standings::key_predicates::{KeyPredicate, has_sort, key_predicates};
 use manifest_lints_standings::key_spans::spans_of;
 use manifest_lints_standings::standing::{Sort, is_unknown_target};
 use manifests::Declared;
@@ -30,7 +30,7 @@ pub struct KnownKey<'a> {
     /// The parts of the value that are not dependency tables, with a text for each.
     pub no_tables: Vec<String>,
     /// The names and pairs in the key, from left to right.
-    pub asked: Vec<AskedFact<'a>>,
+    pub predicates: Vec<KeyPredicate<'a>>,
     /// The maximum number of members, nested in one another, that others follow in their group.
     pub levels: usize,
     /// The canonical form of its condition.
@@ -59,7 +59,7 @@ impl<'a> KnownKey<'a> {
                 read,
                 place,
                 no_tables,
-                asked: Vec::new(alloc),
+                predicates: Vec::new(alloc),
                 levels: 0,
                 canonical: String::new(alloc),
                 is_unknown_target: false,
@@ -84,12 +84,13 @@ impl<'a> KnownKey<'a> {
             Code::Refused => matches!(self.read.spelled, Spelled::Refused(_)),
             Code::NoTable => !self.no_tables.is_empty(),
             Code::ReadOtherwise => {
-                matches!(self.read.spelled, Spelled::ByCargo(_)) || has_marked_literal(&self.asked)
+                matches!(self.read.spelled, Spelled::ByCargo(_))
+                    || has_marked_literal(&self.predicates)
             }
-            Code::Unsupported => has_sort(&self.asked, Sort::Unsupported),
+            Code::Unsupported => has_sort(&self.predicates, Sort::Unsupported),
             Code::UnknownTarget => self.is_unknown_target,
-            Code::UnknownFact => has_sort(&self.asked, Sort::Mistaken),
-            Code::Custom => has_sort(&self.asked, Sort::Custom),
+            Code::UnknownFact => has_sort(&self.predicates, Sort::Mistaken),
+            Code::Custom => has_sort(&self.predicates, Sort::Custom),
             Code::NotCanonical => {
                 matches!(self.read.spelled, Spelled::Condition(_))
                     && self.canonical.as_str() != self.read.text
@@ -129,7 +130,7 @@ fn known_condition<'a>(
         read,
         place,
         no_tables,
-        asked: asked_facts(alloc, &met.values, &spans, declared)?,
+        predicates: key_predicates(alloc, &met.values, &spans, declared)?,
         levels: met.levels,
         canonical: canonical(alloc, condition)?,
         is_unknown_target: is_unknown_target(condition),
@@ -144,10 +145,10 @@ fn canonical(alloc: Global, condition: &Platform) -> Result<String, AllocError>
 }
 
 /// Returns whether one of the facts is the name `r#true` or `r#false`, which Cargo reads as a literal.
-fn has_marked_literal(asked: &[AskedFact<'_>]) -> bool
-    ensures { result ≡ has_marked_literal (sorted_by asked.now) }
+fn has_marked_literal(predicates: &[KeyPredicate<'_>]) -> bool
+    ensures { result ≡ has_marked_literal (sorted_by predicates.now) }
 {
-    'asked: for each in asked {
+    'predicates: for each in predicates {
         if is_marked_literal(each.fact) {
             return true;
         }

@@ -50,7 +50,7 @@ pub fn finding_on(
     code: Code,
 ) -> Result<Finding, AllocError>
     ensures mark { IfOk result (λ f. mark f ≡ (Some key.now.place, code)) }
-    ensures level { IfOk result (λ f. f.level ≡ finding_level code (length key.now.asked.items)) }
+    ensures level { IfOk result (λ f. f.level ≡ finding_level code (length key.now.predicates.items)) }
     ensures named { IfOk result (λ f. NamesKey code other.now (string_bytes f.message)) }
     ensures tells { IfOk result (λ f. Shows code key.now (string_bytes f.message)) }
     ensures notes { IfOk result (λ f. Mentions (noted_texts code key.now) (said f.children.notes.items)) }
@@ -63,7 +63,7 @@ pub fn finding_on(
     let message = message_of(alloc, key, other, code)?;
     let children = children_of(alloc, words, key, &suggestion, code)?;
     let finding = Finding {
-        level: level_of(code, key.asked.len()),
+        level: level_of(code, key.predicates.len()),
         code,
         key: Some(key.place),
         message,

@@ -15,7 +15,7 @@ use crate::readings::Spelled;
 use crate::wording::{both, joined, listed, quoted};
 use cargo_platform::{ParseError, shown_start};
 use known_targets::RUSTC_VERSION;
-use manifest_lints_standings::asked_facts::AskedFact;
+use manifest_lints_standings::key_predicates::KeyPredicate;
 use manifest_lints_standings::standing::Sort;
 use std::alloc::{AllocError, Global};
 
@@ -106,14 +106,14 @@ fn refused_message(alloc: Global, key: &KnownKey<'_>) -> Result<String, AllocErr
         (fault_shown key.now.read.now.text.now key.now.read.now.spelled) (string_bytes s)) }
 {
     let fault = fault_of(alloc, key.read.text, &key.read.spelled)?;
-    format!(in alloc; "the key spells no condition: {fault}")
+    format!(in alloc; "invalid key: {fault}")
 }
 
 /// Returns the message for a key in which Cargo reads names without their raw marks.
 fn unmarked_message(alloc: Global, key: &KnownKey<'_>) -> Result<String, AllocError>
-    ensures { IfOk result (λ s. Mentions (listing (chosen Choice.Literal key.now.asked.items)) (string_bytes s)) }
+    ensures { IfOk result (λ s. Mentions (listing (chosen Choice.Literal key.now.predicates.items)) (string_bytes s)) }
 {
-    let literals = chosen(alloc, &key.asked, Choice::Literal)?;
+    let literals = chosen(alloc, &key.predicates, Choice::Literal)?;
     let names = listed(alloc, &literals)?;
     format!(in alloc; "Cargo reads {names} without the raw mark")
 }
@@ -122,7 +122,7 @@ fn unmarked_message(alloc: Global, key: &KnownKey<'_>) -> Result<String, AllocEr
 /// raw marks.
 fn read_otherwise_message(alloc: Global, key: &KnownKey<'_>) -> Result<String, AllocError>
     ensures { IfOk result (λ s. Mentions
-        (read_otherwise key.now.read.now.spelled key.now.asked.items) (string_bytes s)) }
+        (read_otherwise key.now.read.now.spelled key.now.predicates.items) (string_bytes s)) }
 {
     match &key.read.spelled {
         Spelled::ByCargo(_) => String::from_str(alloc, "Cargo accepts the key with a warning"),
@@ -133,9 +133,9 @@ fn read_otherwise_message(alloc: Global, key: &KnownKey<'_>) -> Result<String, A
 /// Returns the message for facts that Cargo does not set when it selects dependencies.
 fn unsupported_message(alloc: Global, key: &KnownKey<'_>) -> Result<String, AllocError>
     ensures { IfOk result (λ s. Mentions
-        (listing (chosen (Choice.OfSort Sort.Unsupported) key.now.asked.items)) (string_bytes s)) }
+        (listing (chosen (Choice.OfSort Sort.Unsupported) key.now.predicates.items)) (string_bytes s)) }
 {
-    let facts = chosen(alloc, &key.asked, Choice::OfSort(Sort::Unsupported))?;
+    let facts = chosen(alloc, &key.predicates, Choice::OfSort(Sort::Unsupported))?;
     let names = listed(alloc, &facts)?;
     format!(in alloc; "Cargo does not set {names} when it selects dependencies")
 }
@@ -149,7 +149,7 @@ fn unknown_target_message(alloc: Global) -> Result<String, AllocError>
 }
 
 /// Returns the message for facts that no known target has, or the empty text if there are none.
-fn lacking_told(alloc: Global, facts: &[AskedFact<'_>]) -> Result<String, AllocError>
+fn lacking_told(alloc: Global, facts: &[KeyPredicate<'_>]) -> Result<String, AllocError>
     ensures { IfOk result (λ s. Mentions (listing_of_version facts.now) (string_bytes s)) }
 {
     if facts.is_empty() {
@@ -161,7 +161,7 @@ fn lacking_told(alloc: Global, facts: &[AskedFact<'_>]) -> Result<String, AllocE
 }
 
 /// Returns the message for mistaken features, or the empty text if there are none.
-fn features_told(alloc: Global, features: &[AskedFact<'_>]) -> Result<String, AllocError>
+fn features_told(alloc: Global, features: &[KeyPredicate<'_>]) -> Result<String, AllocError>
     ensures { IfOk result (λ s. Mentions (listing_of_version features.now) (string_bytes s)) }
 {
     if features.is_empty() {
@@ -174,9 +174,9 @@ fn features_told(alloc: Global, features: &[AskedFact<'_>]) -> Result<String, Al
 /// Returns the message for mistaken facts.
 fn unknown_fact_message(alloc: Global, key: &KnownKey<'_>) -> Result<String, AllocError>
     ensures { IfOk result (λ s. Mentions
-        (mistakes_in (chosen (Choice.OfSort Sort.Mistaken) key.now.asked.items)) (string_bytes s)) }
+        (mistakes_in (chosen (Choice.OfSort Sort.Mistaken) key.now.predicates.items)) (string_bytes s)) }
 {
-    let mistakes = chosen(alloc, &key.asked, Choice::OfSort(Sort::Mistaken))?;
+    let mistakes = chosen(alloc, &key.predicates, Choice::OfSort(Sort::Mistaken))?;
     let facts = chosen(alloc, &mistakes, Choice::NoFeature)?;
     let features = chosen(alloc, &mistakes, Choice::Feature)?;
     let first = lacking_told(alloc, &facts)?;
@@ -200,7 +200,7 @@ fn everywhere_message(alloc: Global) -> Result<String, AllocError>
 }
 
 /// Returns the message for facts that only unstable features set, or the empty text if there are none.
-fn unstable_told(alloc: Global, facts: &[AskedFact<'_>]) -> Result<String, AllocError>
+fn unstable_told(alloc: Global, facts: &[KeyPredicate<'_>]) -> Result<String, AllocError>
     ensures { IfOk result (λ s. Mentions (listing_of_version facts.now) (string_bytes s)) }
 {
     if facts.is_empty() {
@@ -213,9 +213,9 @@ fn unstable_told(alloc: Global, facts: &[AskedFact<'_>]) -> Result<String, Alloc
 /// Returns the message for facts that only flags set, and for those that only unstable features set.
 fn custom_message(alloc: Global, key: &KnownKey<'_>) -> Result<String, AllocError>
     ensures { IfOk result (λ s. Mentions
-        (custom_in (chosen (Choice.OfSort Sort.Custom) key.now.asked.items)) (string_bytes s)) }
+        (custom_in (chosen (Choice.OfSort Sort.Custom) key.now.predicates.items)) (string_bytes s)) }
 {
-    let custom = chosen(alloc, &key.asked, Choice::OfSort(Sort::Custom))?;
+    let custom = chosen(alloc, &key.predicates, Choice::OfSort(Sort::Custom))?;
     let flagged = chosen(alloc, &custom, Choice::Stable)?;
     let unstable = chosen(alloc, &custom, Choice::Unstable)?;
     let first = lacking_told(alloc, &flagged)?;

@@ -47,7 +47,7 @@ fn other_member(alloc: Global, name: &str) -> Result<String, AllocError> {
     if is_configuration(name) {
         return format!(in alloc; "{shown} belongs into .cargo/config.toml");
     }
-    format!(in alloc; "{shown} is no table of dependencies")
+    format!(in alloc; "{shown} is not a table of dependencies")
 }
 
 /// Returns for each member of a key's value that is not read which dependency table may be meant, where that is known.
@@ -73,7 +73,7 @@ pub fn meant_tables(alloc: Global, value: &Value) -> Result<Vec<String>, AllocEr
 /// Returns the message for a member of this name, which is not a table.
 fn no_table(alloc: Global, name: &str) -> Result<String, AllocError> {
     let name = quoted(alloc, name)?;
-    format!(in alloc; "{name} is no table")
+    format!(in alloc; "{name} is not a table")
 }
 
 /// Returns the names of the fields of a key that are not dependency tables. Fails if memory is refused.
@@ -95,7 +95,7 @@ pub fn no_tables(alloc: Global, value: &Value) -> Result<Vec<String>, AllocError
 {
     let mut found = Vec::new(alloc);
     let Some(table) = value.as_table() else {
-        found.push(String::from_str(alloc, "the key is no table")?)?;
+        found.push(String::from_str(alloc, "the key is not a table")?)?;
         return Ok(found);
     };
     'members: for (name, member) in table.iter() {

@@ -17,7 +17,7 @@ use crate::readings::{Marked, Spelled};
 use crate::suggestions::{Words, instead_of};
 use crate::wording::{joined, quoted, quoted_fact, told};
 use cargo_platform::{Cfg, CfgExpr, Platform, shown_text};
-use manifest_lints_standings::asked_facts::AskedFact;
+use manifest_lints_standings::key_predicates::KeyPredicate;
 use manifest_lints_standings::standing::{Sort, Standing};
 use std::alloc::{AllocError, Global};
 
@@ -105,7 +105,7 @@ fn notes_of(alloc: Global, key: &KnownKey<'_>, code: Code) -> Result<Vec<String>
         Code::ReadOtherwise => notes_on_reading(alloc, &key.read.spelled),
         Code::Unsupported => notes_on_unsupported(alloc, key),
         Code::UnknownTarget => only_words(alloc, OWN),
-        Code::UnknownFact => notes_on_mistakes(alloc, &key.asked),
+        Code::UnknownFact => notes_on_mistakes(alloc, &key.predicates),
         Code::Nowhere => only_words(alloc, OWN_FACTS),
         Code::Custom => notes_on_custom(alloc, key),
         _ => Ok(Vec::new(alloc)),
@@ -167,15 +167,15 @@ fn warn(alloc: Global, fact: &Cfg, warnings: &mut Vec<String>) -> Result<(), All
 
 /// Returns Cargo's warnings on names and pairs that do not select dependencies. The warning on `feature` is included
 /// once.
-fn warnings_on(alloc: Global, facts: &[AskedFact<'_>]) -> Result<Vec<String>, AllocError>
+fn warnings_on(alloc: Global, facts: &[KeyPredicate<'_>]) -> Result<Vec<String>, AllocError>
     ensures { IfOk result (λ found. texts found ≡ warnings_on false facts.now) }
 {
     let mut found = Vec::new(alloc);
     let mut is_said = false;
-    'facts: for asked in facts {
-        let is_pair = is_pair(asked.fact);
+    'facts: for predicate in facts {
+        let is_pair = is_pair(predicate.fact);
         if !(is_pair && is_said) {
-            warn(alloc, asked.fact, &mut found)?;
+            warn(alloc, predicate.fact, &mut found)?;
         }
         is_said = is_said || is_pair;
     }
@@ -185,9 +185,9 @@ fn warnings_on(alloc: Global, facts: &[AskedFact<'_>]) -> Result<Vec<String>, Al
 /// Returns the note on facts that do not select dependencies: Cargo's warnings, on one line.
 fn unsupported_note(alloc: Global, key: &KnownKey<'_>) -> Result<String, AllocError>
     ensures { IfOk result (λ s. Mentions
-        (unsupported_in (chosen (Choice.OfSort Sort.Unsupported) key.now.asked.items) ∷ []) (string_bytes s)) }
+        (unsupported_in (chosen (Choice.OfSort Sort.Unsupported) key.now.predicates.items) ∷ []) (string_bytes s)) }
 {
-    let facts = chosen(alloc, &key.asked, Choice::OfSort(Sort::Unsupported))?;
+    let facts = chosen(alloc, &key.predicates, Choice::OfSort(Sort::Unsupported))?;
     let warnings = warnings_on(alloc, &facts)?;
     let words = joined(alloc, &warnings, warnings.len(), " ")?;
     let text = shown_text(alloc, words.as_str())?;
@@ -197,7 +197,7 @@ fn unsupported_note(alloc: Global, key: &KnownKey<'_>) -> Result<String, AllocEr
 /// Returns the notes on facts that do not select dependencies.
 fn notes_on_unsupported(alloc: Global, key: &KnownKey<'_>) -> Result<Vec<String>, AllocError>
     ensures { IfOk result (λ notes. Mentions
-        (unsupported_in (chosen (Choice.OfSort Sort.Unsupported) key.now.asked.items) ∷ []) (said notes.items)) }
+        (unsupported_in (chosen (Choice.OfSort Sort.Unsupported) key.now.predicates.items) ∷ []) (said notes.items)) }
 {
     let note = unsupported_note(alloc, key)?;
     only(alloc, note)
@@ -212,8 +212,11 @@ fn is_panic(fact: &Cfg) -> bool {
 }
 
 /// Returns the notes on mistaken facts.
-fn notes_on_mistakes(alloc: Global, asked: &[AskedFact<'_>]) -> Result<Vec<String>, AllocError> {
-    let mistakes = chosen(alloc, asked, Choice::OfSort(Sort::Mistaken))?;
+fn notes_on_mistakes(
+    alloc: Global,
+    predicates: &[KeyPredicate<'_>],
+) -> Result<Vec<String>, AllocError> {
+    let mistakes = chosen(alloc, predicates, Choice::OfSort(Sort::Mistaken))?;
     let mut notes = Vec::new(alloc);
     if mistakes.iter().any(|it| it.standing == Standing::OfProfile) {
         notes.push(String::from_str(alloc, OF_PROFILES)?)?;
@@ -229,7 +232,7 @@ fn notes_on_mistakes(alloc: Global, asked: &[AskedFact<'_>]) -> Result<Vec<Strin
 
 /// Returns the notes on facts that only flags or unstable features set.
 fn notes_on_custom(alloc: Global, key: &KnownKey<'_>) -> Result<Vec<String>, AllocError> {
-    let custom = chosen(alloc, &key.asked, Choice::OfSort(Sort::Custom))?;
+    let custom = chosen(alloc, &key.predicates, Choice::OfSort(Sort::Custom))?;
     if chosen(alloc, &custom, Choice::Stable)?.is_empty() {
         return Ok(Vec::new(alloc));
     }
@@ -312,7 +315,7 @@ fn hints(
             Some(value) => meant_tables(alloc, value),
             None => Ok(Vec::new(alloc)),
         },
-        Code::UnknownFact => hints_on_mistakes(alloc, words, &key.asked),
+        Code::UnknownFact => hints_on_mistakes(alloc, words, &key.predicates),
         _ => Ok(Vec::new(alloc)),
     }
 }
@@ -321,9 +324,9 @@ fn hints(
 fn hints_on_mistakes(
     alloc: Global,
     words: &Words,
-    asked: &[AskedFact<'_>],
+    predicates: &[KeyPredicate<'_>],
 ) -> Result<Vec<String>, AllocError> {
-    let mistakes = chosen(alloc, asked, Choice::OfSort(Sort::Mistaken))?;
+    let mistakes = chosen(alloc, predicates, Choice::OfSort(Sort::Mistaken))?;
     let mut helps = Vec::new(alloc);
     for mistake in told(&mistakes) {
         if let Some(other) = instead_of(alloc, words, mistake)? {

@@ -5,7 +5,7 @@ use crate::codes::Code;
 use crate::known_keys::KnownKey;
 use crate::no_tables::no_table_fields;
 use crate::wording::TOLD;
-use manifest_lints_standings::asked_facts::AskedFact;
+use manifest_lints_standings::key_predicates::KeyPredicate;
 use manifest_lints_standings::standing::Sort;
 use std::alloc::{AllocError, Global};
 use toml_spans::Span;
@@ -33,12 +33,12 @@ impl Pointed {
 }
 
 /// Returns whether the diagnostic of this lint is about a name or pair.
-fn is_at_fault(code: Code, asked: &AskedFact<'_>) -> bool {
+fn is_at_fault(code: Code, predicate: &KeyPredicate<'_>) -> bool {
     match code {
-        Code::UnknownFact => asked.standing.sort().is(Sort::Mistaken),
-        Code::Unsupported => asked.standing.sort().is(Sort::Unsupported),
-        Code::Custom => asked.standing.sort().is(Sort::Custom),
-        Code::ReadOtherwise => is_marked_literal(asked.fact),
+        Code::UnknownFact => predicate.standing.sort().is(Sort::Mistaken),
+        Code::Unsupported => predicate.standing.sort().is(Sort::Unsupported),
+        Code::Custom => predicate.standing.sort().is(Sort::Custom),
+        Code::ReadOtherwise => is_marked_literal(predicate.fact),
         _ => false,
     }
 }
@@ -47,11 +47,11 @@ fn is_at_fault(code: Code, asked: &AskedFact<'_>) -> bool {
 /// first occurs.
 fn facts_at_fault(
     alloc: Global,
-    asked: &[AskedFact<'_>],
+    predicates: &[KeyPredicate<'_>],
     code: Code,
 ) -> Result<Vec<Span>, AllocError> {
     let mut spans = Vec::new(alloc);
-    for each in asked {
+    for each in predicates {
         if spans.len() >= TOLD {
             break;
         }
@@ -93,7 +93,7 @@ pub fn pointed_by(
     code: Code,
 ) -> Result<Pointed, AllocError> {
     Ok(Pointed {
-        facts: facts_at_fault(alloc, &key.asked, code)?,
+        facts: facts_at_fault(alloc, &key.predicates, code)?,
         fields: fields_at_fault(alloc, key, code)?,
         earlier: earlier_of(alloc, other, code)?,
     })

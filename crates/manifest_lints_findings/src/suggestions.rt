@@ -12,35 +12,45 @@ use crate::readings::{ReadKey, Spelled};
 use crate::repairing::repaired_key;
 use cargo_platform::{Cfg, CfgExpr, Platform, ReadError};
 use known_targets::{KnownFact, all_facts};
-use manifest_lints_standings::asked_facts::AskedFact;
+use manifest_lints_standings::key_predicates::KeyPredicate;
 use manifest_lints_standings::standing::{Sort, Standing, is_value_of};
 use std::alloc::{AllocError, Global};
+use std::cell::OnceCell;
 use toml::Value;
 
 /// The facts that known targets have.
 #[derive(Drop)]
 pub struct Words {
-    facts: Vec<KnownFact>,
+    alloc: Global,
+    // Empty until a value is compared with them: few manifests have a value that no target has.
+    facts: OnceCell<Vec<KnownFact>>,
 }
 
 impl Words {
-    /// Returns the facts of all known targets. Fails if memory is refused.
+    /// Returns the facts of all known targets. They are listed when a mistake is first compared with them.
     pub fn new(alloc: Global) -> Result<Words, AllocError> {
         Ok(Words {
-            facts: all_facts(alloc)?,
+            alloc,
+            facts: OnceCell::new(),
         })
     }
 
+    /// Returns the facts, which are listed once.
+    fn facts(&self) -> Result<&Vec<KnownFact>, AllocError> {
+        let alloc = self.alloc;
+        self.facts.get_or_try_init(|| all_facts(alloc))
+    }
+
     /// Returns the value of the key that is one edit away.
-    fn near_value(&self, key: &str, text: &str) -> Option<&str> {
-        for known in &self.facts {
+    fn near_value(&self, key: &str, text: &str) -> Result<Option<&str>, AllocError> {
+        for known in self.facts()? {
             if let Cfg::KeyPair(other, value) = &known.fact {
                 if other.as_str() == key && near(text, &[value.as_str()]).is_some() {
-                    return Some(value.as_str());
+                    return Ok(Some(value.as_str()));
                 }
             }
         }
-        None
+        Ok(None)
     }
 }
 
@@ -48,9 +58,9 @@ impl Words {
 pub fn instead_of(
     alloc: Global,
     words: &Words,
-    asked: &AskedFact<'_>,
+    predicate: &KeyPredicate<'_>,
 ) -> Result<Option<String>, AllocError> {
-    match (asked.standing, asked.fact) {
+    match (predicate.standing, predicate.fact) {
         (Standing::ValueAsName(key), Cfg::Name(name)) => { fact_of_name(alloc, key, name.as_str()) }
         (Standing::OtherValue, Cfg::KeyPair(key, value)) => {
             fact_instead_of(alloc, words, key.as_str(), value.as_str())
@@ -88,7 +98,7 @@ fn value_instead_of<'a>(
 ) -> Result<Option<&'a str>, AllocError> {
     match meant_value(alloc, key, value)? {
         Some(other) => Ok(Some(other)),
-        None => Ok(words.near_value(key, value)),
+        None => words.near_value(key, value),
     }
 }
 
@@ -180,7 +190,7 @@ fn fact_instead_of(
     if let Some(other) = any_of_joined(alloc, key, value)? {
         return Ok(Some(other));
     }
-    match words.near_value(key, value) {
+    match words.near_value(key, value)? {
         Some(other) => with_value(alloc, key, other),
         None => Ok(None),
     }
@@ -308,7 +318,7 @@ fn dotted_target(alloc: Global, key: &KnownKey<'_>) -> Result<Option<String>, Al
 }
 
 /// Returns the target that a key names by `target = ".."` alone.
-fn asked_target<'a>(key: &KnownKey<'a>) -> Option<&'a str> {
+fn named_target<'a>(key: &KnownKey<'a>) -> Option<&'a str> {
     match &key.read.spelled {
         Spelled::Condition(Platform::Cfg(CfgExpr::Value(Cfg::KeyPair(name, value))))
             if name.as_str() == "target" => { Some(value.as_str()) }
@@ -323,12 +333,12 @@ fn push_repaired(
     alloc: Global,
     words: &Words,
     rest: (&str, usize),
-    asked: &AskedFact<'_>,
+    predicate: &KeyPredicate<'_>,
 ) -> Result<Option<usize>, AllocError> {
-    let Some(other) = instead_of(alloc, words, asked)? else {
+    let Some(other) = instead_of(alloc, words, predicate)? else {
         return Ok(None);
     };
-    let Some(span) = asked.span else {
+    let Some(span) = predicate.span else {
         return Ok(None);
     };
     let (text, copied) = rest;
@@ -346,9 +356,9 @@ fn with_facts_replaced(
     let text = key.read.text;
     let mut repaired = String::new(alloc);
     let mut copied = 0;
-    for asked in &key.asked {
-        if asked.standing.sort().is(Sort::Mistaken) {
-            match push_repaired(&mut repaired, alloc, words, (text, copied), asked)? {
+    for predicate in &key.predicates {
+        if predicate.standing.sort().is(Sort::Mistaken) {
+            match push_repaired(&mut repaired, alloc, words, (text, copied), predicate)? {
                 Some(end) => copied = end,
                 None => return Ok(None),
             }
@@ -364,7 +374,7 @@ fn repaired(
     words: &Words,
     key: &KnownKey<'_>,
 ) -> Result<Option<String>, AllocError> {
-    match asked_target(key) {
+    match named_target(key) {
         Some(name) => Ok(Some(String::from_str(alloc, name)?)),
         None => with_facts_replaced(alloc, words, key),
     }

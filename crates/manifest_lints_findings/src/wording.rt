@@ -8,7 +8,7 @@ ghost use Rattle.manifest_lints_findings.specs.Texts.{quoted_text, and_more, joi
 ghost use Rattle.manifest_lints_findings.specs.declared.wording.TheConstants.{TOLD};
 
 use cargo_platform::{Cfg, shown_start};
-use manifest_lints_standings::asked_facts::AskedFact;
+use manifest_lints_standings::key_predicates::KeyPredicate;
 use std::alloc::{AllocError, Global};
 
 /// The maximum number of items of a list that are printed.
@@ -84,12 +84,12 @@ pub fn joined(
 }
 
 /// Returns the first facts, and the number of the others. Fails if memory is refused.
-pub fn listed(alloc: Global, facts: &[AskedFact<'_>]) -> Result<String, AllocError>
+pub fn listed(alloc: Global, facts: &[KeyPredicate<'_>]) -> Result<String, AllocError>
     ensures { IfOk result (λ s. string_bytes s ≡ joined_first fact_text (codes ", ") facts.now) }
 {
     let mut texts = Vec::new(alloc);
-    'told: for asked in told(facts) {
-        texts.push(quoted_fact(alloc, asked.fact)?)?;
+    'told: for predicate in told(facts) {
+        texts.push(quoted_fact(alloc, predicate.fact)?)?;
     }
     joined(alloc, &texts, facts.len(), ", ")
 }

@@ -16,8 +16,8 @@ use Rattle.known_targets.specs.Table.{table_keys, target_name}
 use Rattle.known_targets.specs.declared.table.TheConstants.{COUNT}
 use Rattle.known_targets.specs.Listed.{is_had}
 use Rattle.manifests.specs.Declarations.{DeclaredEntry, is_declared}
-use Rattle.manifest_lints_standings.specs.declared.asked_facts.AskedFact.{AskedFact}
-use Rattle.manifest_lints_standings.specs.declared.asked_facts.TheConstants.{OPEN}
+use Rattle.manifest_lints_standings.specs.declared.key_predicates.KeyPredicate.{KeyPredicate}
+use Rattle.manifest_lints_standings.specs.declared.key_predicates.TheConstants.{OPEN}
 use Rattle.manifest_lints_standings.specs.declared.rustc_names.TheConstants.{VALUED, FLAGGED, PLAIN}
 use Rattle.manifest_lints_standings.specs.declared.rustc_names.TheConstants.{SHORTENED, OF_PROFILES, OTHER_WORDS}
 use Rattle.manifest_lints_standings.specs.declared.rustc_names.TheConstants.{UNSTABLE_NAMES, UNSTABLE_KEYS, PANICS}
@@ -183,10 +183,10 @@ Sorted = CfgValue × Sort
 abbrev pub sorted_beside : List DeclaredEntry → CfgValue → Sorted
 sorted_beside ds c = (c, beside (is_declared ds c) (sort_of c))
 
-abbrev pub sorted_of : AskedFact → Sorted
+abbrev pub sorted_of : KeyPredicate → Sorted
 sorted_of f = (value_of f.fact.now, sort_in f.standing)
 
-abbrev pub sorted_by : List AskedFact → List Sorted
+abbrev pub sorted_by : List KeyPredicate → List Sorted
 sorted_by fs = map sorted_of fs
 
 abbrev pub sorted_in : List DeclaredEntry → Condition → List Sorted

@@ -1,7 +1,7 @@
 //! The names of rustc, and the classes of the names and pairs of a condition for rustc and Cargo.
 #![tactic(auto)]
 
-pub mod asked_facts;
+pub mod key_predicates;
 pub mod key_spans;
 pub mod laws;
 pub mod rustc_names;

@@ -3,7 +3,7 @@ use Rattle.std.specs.Borrow.{Bor}
 use Rattle.std.proofs.lemmas.List.{length-map}
 use Rattle.cargo_platform.specs.Trees.{condition_of}
 use Rattle.partial_facts.specs.Partly.{names_of}
-use Rattle.manifest_lints_standings.specs.declared.asked_facts.AskedFact.{AskedFact}
+use Rattle.manifest_lints_standings.specs.declared.key_predicates.KeyPredicate.{KeyPredicate}
 use Rattle.manifests.specs.Declarations.{declarations_of}
 use Rattle.manifest_lints_standings.specs.Standings.{open_in, sorted_by, sorted_of, sorted_in}
 use Rattle.manifest_lints_findings.specs.Known.{sorted_of_spelled}
@@ -18,7 +18,7 @@ use Rattle.manifest_lints.proofs.found.answers_alone.Goals as goal
 as_many : (ts : List (Bor (List ℕ))) (ns : List (List ℕ)) → names_of ts ≡ ns → length ns ≡ length ts
 as_many ts ns is = sym (ap length is) ∙ length-map ts (λ t. t.now)
 
-counted : (n : ℕ) (fs : List AskedFact) → n ≡ length fs → n ≡ length (sorted_by fs)
+counted : (n : ℕ) (fs : List KeyPredicate) → n ≡ length fs → n ≡ length (sorted_by fs)
 counted n fs is = is ∙ sym (length-map fs sorted_of)
 
 pub returns-clause-alone : goal.returns-clause-alone
@@ -29,14 +29,14 @@ returns-clause-alone c = λ known is.
     let places = c.in_ok-nowhere.ensures in
     let open_keys = c.deref-2.result.now in
     let sorted = ap (λ fs. open_in (sorted_by fs)) c.deref.ensures.value
-    ∙ ap open_in (known.asked ∙ ap (sorted_of_spelled ds) is) in
+    ∙ ap open_in (known.predicates ∙ ap (sorted_of_spelled ds) is) in
     let names : names_of open_keys ≡ open_in (sorted_in ds p) =
     ap names_of c.deref-2.ensures.value ∙ c.in_ok-open.ensures ∙ sorted in
     let names_too : names_of c.deref-3.result.now ≡ open_in (sorted_in ds p) =
     ap names_of c.deref-3.ensures.value ∙ c.in_ok-open.ensures ∙ sorted in
     let facts : c.len.result ≡ length (sorted_in ds p) =
-    counted c.len.result c.args.key.now.asked.items (search rules) ∙ ap length
-    (known.asked ∙ ap (sorted_of_spelled ds) is) in
+    counted c.len.result c.args.key.now.predicates.items (search rules) ∙ ap length
+    (known.predicates ∙ ap (sorted_of_spelled ds) is) in
     record {
       never = (asked.never, λ no settled. asked.can_hold no (left_false _ _ (sym c.either.ensures ∙ settled)));
       always = (asked.always, λ no settled. asked.can_fail no (left_false _ _ (sym c.either.ensures ∙ settled)));
@@ -56,13 +56,13 @@ returns-clause-left_open c = λ known is es holds.
     let k = c.args.asking.now.known.now in
     let ds = declarations_of c.args.asking.now.declared.now in
     let p = condition_of c.args.condition.now in
-    let asked_is = known.asked ∙ ap (sorted_of_spelled ds) is in
+    let asked_is = known.predicates ∙ ap (sorted_of_spelled ds) is in
     let names : names_of c.deref-3.result.now ≡ open_in (sorted_in ds p) =
     ap names_of c.deref-3.ensures.value ∙ c.in_ok-open.ensures
     ∙ ap (λ fs. open_in (sorted_by fs)) c.deref.ensures.value ∙ ap open_in asked_is in
-    let long : length c.args.key.now.asked.items ≡ length (sorted_in ds p) =
-    sym (length-map c.args.key.now.asked.items sorted_of) ∙ ap length asked_is in
-    let counted : c.len-2.result ≡ length c.args.key.now.asked.items = search rules in
+    let long : length c.args.key.now.predicates.items ≡ length (sorted_in ds p) =
+    sym (length-map c.args.key.now.predicates.items sorted_of) ∙ ap length asked_is in
+    let counted : c.len-2.result ≡ length c.args.key.now.predicates.items = search rules in
     elim (one_or _ _ (sym c.either.ensures ∙ holds)) [
       | inl unknown ↦
           elim (c.in_ok-never.ensures.unknown unknown) [

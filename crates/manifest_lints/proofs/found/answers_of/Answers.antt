@@ -17,18 +17,19 @@ returns-clause-alone c = λ known is.
     c.either.result c.either.ensures (c.in_ok-answers.ensures.alone known is)
 
 pub returns-clause-left_open : goal.returns-clause-left_open
-returns-clause-left_open c = λ known is es members holds.
+returns-clause-left_open c = λ known is es members much holds.
     let k = c.args.asking.now.known.now in
     let ds = declarations_of c.args.asking.now.declared.now in
     let p = condition_of c.args.condition.now in
     let key = c.args.key.now in
-    let long : length key.asked.items ≡ length (sorted_in ds p) =
-    sym (length-map key.asked.items sorted_of) ∙ ap length (known.asked ∙ ap (sorted_of_spelled ds) is) in
+    let long : length key.predicates.items ≡ length (sorted_in ds p) =
+    sym (length-map key.predicates.items sorted_of) ∙ ap length (known.predicates ∙ ap (sorted_of_spelled ds) is) in
     elim (one_or _ _ (sym c.either.ensures ∙ holds)) [
       | inl alone ↦ c.in_ok-answers.ensures.left_open known is es alone
       | inr beside ↦
-          open_beside k es c.args.before.now p members ds key.read.now.text.now c.budget_beside-budget.result _ _
-          (length key.asked.items) c.budget_beside-budget.ensures long c.in_ok-answers-2.ensures.undecided
+          open_beside k es c.args.before.now p members ds key.read.now.text.now c.budget_beside-budget.result _
+          c.args.asking.now.is_too_much _ (length key.predicates.items) c.budget_beside-budget.ensures much long
+          c.in_ok-answers-2.ensures.undecided
           (sym c.stays_open-is_open.ensures ∙ beside)
     ]
 

@@ -8,7 +8,7 @@ use Rattle.manifest_lints_findings.specs.Known.{IsKnown, is_condition}
 use Rattle.manifest_lints_findings.specs.Spells.{IsSpelledAs, entry_read}
 use Rattle.manifest_lints.specs.Earlier.{same_place, equivalent_place, is_undecided}
 use Rattle.manifest_lints.specs.Missed.{AreCovered}
-use Rattle.manifest_lints.specs.Reports.{MayBeOpen, left_open as listed}
+use Rattle.manifest_lints.specs.Reports.{MayBeOpen, AreTooLong, left_open as listed}
 use Rattle.manifest_lints.proofs.Founds.{found_spelled, found_unspelled, spells_nothing}
 use Rattle.manifest_lints.specs.Sames.{IsFirst, IsSameAs}
 use Rattle.manifest_lints.proofs.MoreSames.{one_noted, tells_same, tells_equivalent, names_rightly, none_more}
@@ -17,8 +17,9 @@ use Rattle.manifest_lints.proofs.Missed.{misses_none, one_covered, nothing_cover
 use Rattle.manifest_lints.proofs.found.found_of.Goals as goal
 
 pub returns-in_ok-answers-in-Condition-clause-found : goal.returns-in_ok-answers-in-Condition-clause-found
-returns-in_ok-answers-in-Condition-clause-found c = λ read es long are_noted members ns covered.
+returns-in_ok-answers-in-Condition-clause-found c = λ read es long are_noted members much ns covered.
     let k = c.args.asking.now.known.now in
+    let far = c.args.asking.now.is_too_much in
     let ds = declarations_of c.args.asking.now.declared.now in
     let r = c.args.read.now in
     let e = entry_read r in
@@ -38,7 +39,8 @@ returns-in_ok-answers-in-Condition-clause-found c = λ read es long are_noted me
     subst (IsFirst (IsSameAs (condition_of p.now)) es) (sym says.same) (are_noted p) in
     let alike = equivalent_one k es old (condition_of p.now) members (equivalent_place a.earlier) says.equivalent in
     let left_open = subst (λ z. IsTrue a.is_open → MayBeOpen k ds es z.text.now (condition_of p.now)) known.read
-    (says.left_open by_itself spelled es members) in
+    (says.left_open by_itself spelled es members
+    (subst (λ z. IsTrue far → AreTooLong es z.text.now) (sym known.read) much)) in
     let alone = says.alone by_itself spelled in
     let decided = λ (closed : a.is_open ≡ false) (undecided : IsTrue (is_undecided a.earlier)).
     never_or_always k (condition_of p.now) a.never a.always alone.never.0 alone.always.0
@@ -60,7 +62,7 @@ returns-in_ok-answers-in-Condition-clause-found c = λ read es long are_noted me
     )
 
 pub returns-in-ByCargo-clause-found : goal.returns-in-ByCargo-clause-found
-returns-in-ByCargo-clause-found c = λ read es long are_noted members ns covered.
+returns-in-ByCargo-clause-found c = λ read es long are_noted members much ns covered.
     let k = c.args.asking.now.known.now in
     let ds = declarations_of c.args.asking.now.declared.now in
     let r = c.args.read.now in

@@ -1,5 +1,5 @@
 use Rattle.std.proofs.Common.{◌≡◌, ◌∙◌, refl, sym, ap, subst, ℕ, List, [], ◌∷◌, ◌++◌, take, map, length, get_or}
-use Rattle.std.proofs.Common.{arith}
+use Rattle.std.proofs.Common.{arith, ◌+◌, ◌≤◌, IsTrue}
 use Rattle.std.proofs.lemmas.List.{length-map, length-take-le}
 use Rattle.std.specs.List.{All}
 use Rattle.exact_answers.specs.declared.known.Known.{Known}
@@ -12,6 +12,8 @@ use Rattle.manifest_lints.specs.Founds.{found_codes}
 use Rattle.manifest_lints.specs.Sames.{AreNoted, AreMembers}
 use Rattle.manifest_lints.specs.Missed.{AreCovered}
 use Rattle.manifest_lints.specs.Reports.{AreFindingsOn, on_none, IsFound, AddsFindings, told_marks, left_open}
+use Rattle.manifest_lints.specs.Reports.{bytes_of, AreTooLong}
+use Rattle.manifest_lints.proofs.Lengths.{bytes_more, too_long}
 use Rattle.manifest_lints.proofs.MoreSames.{none_noted}
 use Rattle.manifest_lints.proofs.MoreEquivalents.{no_members}
 use Rattle.manifest_lints.proofs.Missed.{none_covered}
@@ -34,6 +36,7 @@ keys-init c = record {
   covered = λ all.
       none_covered c.args.asking.now.known.now c.new-undecided.result.items c.new-before.result
       c.new-before.ensures.classed;
+  bytes = omega arith;
 }
 
 pub keys-preserved : goal.keys-preserved
@@ -46,8 +49,10 @@ keys-preserved c =
     let new = c.found_of.new.before in
     let long : length es ≡ i = length-map (take i c.args.read.now) entry_read
     ∙ length-take-le i c.args.read.now (omega arith) in
+    let much = c.is_too_much.result in
     let F : ReadKey → Type 0 = λ r. IsRead r → length es ≡ i → AreNoted es c.keys.before
-    → AreMembers es c.keys.before → (ns : List ℕ) → AreCovered k es ns c.keys.before
+    → AreMembers es c.keys.before → (IsTrue much → AreTooLong es r.text.now) → (ns : List ℕ)
+    → AreCovered k es ns c.keys.before
     → IsFound k ds es ns (entry_read r) (found_codes f) f.answers.earlier f.answers.is_open
     × AreNoted (es ++ entry_read r ∷ []) new
     × (AreMembers (es ++ entry_read r ∷ []) new
@@ -56,9 +61,15 @@ keys-preserved c =
     let known : IsKnown ds (get_or c.args.read.now i c.index-read-place.result) f.key =
     subst (λ r. IsKnown ds r f.key) c.index-read-place.is c.in_ok-found.ensures.known in
     let entries = next_entries c.args.read.now i c.index-read-place.result c.keys-test.true in
+    let r = get_or c.args.read.now i c.index-read-place.result in
+    let counted : c.bytes_with-bytes.result ≤ c.keys.bytes + length r.text.now =
+    subst (λ z. c.bytes_with-bytes.result ≤ c.keys.bytes + length z.text.now) c.index-read-place.is
+    c.bytes_with-bytes.ensures in
     let now = λ (all : All IsRead c.args.read.now).
     next (all i c.index-read-place.result c.keys-test.true) long (c.keys.invariant.noted_keys all)
-    (c.keys.invariant.members all) c.keys.undecided.items (c.keys.invariant.covered all) in
+    (c.keys.invariant.members all)
+    (too_long es r.text.now much i c.keys.bytes c.bytes_with-bytes.result long c.keys.invariant.bytes counted
+    c.is_too_much.ensures) c.keys.undecided.items (c.keys.invariant.covered all) in
     let listed = c.in_ok-note_undecided.ensures
     ∙ ap (λ n. c.keys.undecided.items ++ left_open n f.answers.is_open) c.in_ok-found.ensures.place in
     record {
@@ -83,4 +94,6 @@ keys-preserved c =
           (subst
           (λ ns. AreCovered k (es ++ entry_read (get_or c.args.read.now i c.index-read-place.result) ∷ []) ns new)
           (sym listed) (now all).2.1);
+      bytes = subst (λ fs. c.bytes_with-bytes.result ≤ bytes_of fs) entries
+          (bytes_more es (entry_read r) c.keys.bytes c.bytes_with-bytes.result c.keys.invariant.bytes counted);
     }

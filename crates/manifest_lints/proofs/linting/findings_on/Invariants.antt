@@ -1,8 +1,8 @@
-use Rattle.std.proofs.Common.{map, take}
+use Rattle.std.proofs.Common.{map, take, ◌≤◌}
 use Rattle.std.specs.List.{All}
 use Rattle.manifests.specs.Declarations.{declarations_of}
 use Rattle.manifest_lints_findings.specs.Spells.{IsRead, entry_read}
-use Rattle.manifest_lints.specs.Reports.{AreFindingsOn}
+use Rattle.manifest_lints.specs.Reports.{AreFindingsOn, bytes_of}
 use Rattle.manifest_lints.specs.Sames.{AreNoted, AreMembers}
 use Rattle.manifest_lints.specs.Missed.{AreCovered}
 use Rattle.manifest_lints.proofs.linting.findings_on.Given as goal
@@ -18,4 +18,5 @@ invariant-keys l = record {
   covered :
       All IsRead l.read
       → AreCovered l.asking.known.now (map entry_read (take l.place l.read)) l.undecided.items l.before;
+  bytes : l.bytes ≤ bytes_of (map entry_read (take l.place l.read));
 }

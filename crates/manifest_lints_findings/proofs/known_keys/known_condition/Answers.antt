@@ -12,8 +12,8 @@ returns-clause-known c = λ is tables.
     record {
       read = refl;
       tables = tables;
-      asked =
-          c.in_ok-asked_facts.ensures
+      predicates =
+          c.in_ok-key_predicates.ensures
           ∙ ap (map (λ v. sorted_beside ds (value_of v.now))) c.deref.ensures.value
           ∙ sym (map-map (sorted_beside ds) (λ v. value_of v.now) c.in_ok-met.met.values.items)
           ∙ ap (map (sorted_beside ds)) c.in_ok-met.ensures ∙ sym (ap (sorted_of_spelled ds) is);

@@ -10,5 +10,5 @@ pub returns : goal.returns
 returns c =
     let ts = fault_shown c.args.key.now.read.now.text.now c.args.key.now.read.now.spelled in
     IfOk-weaker c.format.result _ (λ s. Mentions ts (string_bytes s))
-    (λ s is. mentions_last ts (string_bytes s) (codes "the key spells no condition: ") _ is c.in_ok-fault.ensures)
+    (λ s is. mentions_last ts (string_bytes s) (codes "invalid key: ") _ is c.in_ok-fault.ensures)
     c.format.ensures.ok

@@ -11,7 +11,7 @@ use Rattle.manifest_lints_findings.proofs.messages.unknown_fact_message.Goals as
 pub returns : goal.returns
 returns c =
     let those = choice.OfSort sort.Mistaken in
-    let fs = chosen those c.args.key.now.asked.items in
+    let fs = chosen those c.args.key.now.predicates.items in
     let all : c.in_ok-mistakes.mistakes.items ≡ fs =
     c.in_ok-mistakes.ensures ∙ ap (chosen those) c.deref.ensures.value in
     let first = c.deref-4.ensures.value ∙ c.in_ok-facts.ensures

@@ -10,7 +10,7 @@ use Rattle.manifest_lints_findings.proofs.messages.unmarked_message.Goals as goa
 
 pub returns : goal.returns
 returns c =
-    let fs = chosen choice.Literal c.args.key.now.asked.items in
+    let fs = chosen choice.Literal c.args.key.now.predicates.items in
     let facts_are = c.deref-2.ensures.value ∙ c.in_ok-literals.ensures
     ∙ ap (chosen choice.Literal) c.deref.ensures.value in
     let named = listed_shown fs _ (c.in_ok-names.ensures ∙ ap (joined_first fact_text (codes ", ")) facts_are) in

@@ -11,4 +11,5 @@ returns-in_ok-note-in-ByCargo c =
     let ts = cargo_words c.in-ByCargo.marked ∷ [] in
     subst (λ z. IfOk c.only.result (λ notes. Mentions (cargo_noted z) (said notes.items))) (sym c.in-ByCargo.is)
     (IfOk-weaker c.only.result _ (λ notes. Mentions ts (said notes.items))
-    (λ notes is. one_said ts notes.items c.in_ok-note-in-ByCargo.note is c.in_ok-note-in-ByCargo.ensures) c.only.ensures)
+    (λ notes is. one_said ts notes.items c.in_ok-note-in-ByCargo.note is c.in_ok-note-in-ByCargo.ensures)
+    c.only.ensures)

@@ -10,6 +10,6 @@ use Rattle.manifest_lints_findings.proofs.notes_and_helps.notes_on_unsupported.G
 
 pub returns : goal.returns
 returns c =
-    let ts = unsupported_in (chosen (choice.OfSort sort.Unsupported) c.args.key.now.asked.items) ∷ [] in
+    let ts = unsupported_in (chosen (choice.OfSort sort.Unsupported) c.args.key.now.predicates.items) ∷ [] in
     IfOk-weaker c.only.result _ (λ notes. Mentions ts (said notes.items))
     (λ notes is. one_said ts notes.items c.in_ok-note.note is c.in_ok-note.ensures) c.only.ensures

@@ -14,7 +14,7 @@ use Rattle.manifest_lints_findings.proofs.notes_and_helps.unsupported_note.Goals
 pub returns : goal.returns
 returns c =
     let those = choice.OfSort sort.Unsupported in
-    let fs = chosen those c.args.key.now.asked.items in
+    let fs = chosen those c.args.key.now.predicates.items in
     let facts_are = c.deref-2.ensures.value ∙ c.in_ok-facts.ensures ∙ ap (chosen those) c.deref.ensures.value in
     let warnings_are = c.in_ok-warnings.ensures ∙ ap (warnings_on false) facts_are in
     let warnings = c.in_ok-warnings.warnings.items in

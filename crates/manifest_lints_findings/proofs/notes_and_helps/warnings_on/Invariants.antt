@@ -6,4 +6,4 @@ use Rattle.manifest_lints_findings.proofs.notes_and_helps.warnings_on.Given as g
 -- what was said, and is said of what is left
 abbrev pub invariant-facts : goal.invariant-facts
 invariant-facts l =
-    texts l.found ++ warnings_on l.is_said (drop l.asked-index l.facts) ≡ warnings_on false l.facts
+    texts l.found ++ warnings_on l.is_said (drop l.predicate-index l.facts) ≡ warnings_on false l.facts

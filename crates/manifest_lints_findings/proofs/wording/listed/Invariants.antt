@@ -5,4 +5,4 @@ use Rattle.manifest_lints_findings.proofs.wording.listed.Given as goal
 -- the texts of the facts so far
 abbrev pub invariant-told : goal.invariant-told
 invariant-told l =
-    map (λ t. string_bytes t) l.texts.items ≡ map fact_text (take l.asked-index l.asked-items)
+    map (λ t. string_bytes t) l.texts.items ≡ map fact_text (take l.predicate-index l.predicate-items)

@@ -21,7 +21,7 @@ const OPEN: [&str; 3] = ["debug_assertions", "panic", "target_feature"];
 
 /// A name or pair in a key.
 #[derive(Clone, Copy, Drop)]
-pub struct AskedFact<'a> {
+pub struct KeyPredicate<'a> {
     pub fact: &'a Cfg,
     /// The span in the key.
     pub span: Option<Span>,
@@ -33,39 +33,39 @@ pub struct AskedFact<'a> {
 
 /// Returns the names and pairs of a condition with their classes. `spans` are their spans in the key. Fails if memory
 /// is refused.
-pub fn asked_facts<'a>(
+pub fn key_predicates<'a>(
     alloc: Global,
     values: &[&'a Cfg],
     spans: &[Span],
     declared: &Declared<'_>,
-) -> Result<Vec<AskedFact<'a>>, AllocError>
-    ensures { IfOk result (λ asked. sorted_by asked.items
+) -> Result<Vec<KeyPredicate<'a>>, AllocError>
+    ensures { IfOk result (λ predicates. sorted_by predicates.items
         ≡ map (λ c. sorted_beside (declarations_of declared.now) (value_of c.now)) values.now) }
 {
-    let mut asked = Vec::new(alloc);
+    let mut predicates = Vec::new(alloc);
     let mut seen: BTreeSet<&'a Cfg> = BTreeSet::new(alloc);
     'values: for (index, each) in values.iter().enumerate() {
         let fact: &'a Cfg = *each;
         let is_first = seen.insert(fact)?;
         let span = spans.get(index).copied();
-        let fact = asked_fact(alloc, fact, span, is_first, declared)?;
-        asked.push(fact)?;
+        let fact = key_predicate(alloc, fact, span, is_first, declared)?;
+        predicates.push(fact)?;
     }
-    Ok(asked)
+    Ok(predicates)
 }
 
 /// Returns a name or pair of a key with its class.
-fn asked_fact<'a>(
+fn key_predicate<'a>(
     alloc: Global,
     fact: &'a Cfg,
     span: Option<Span>,
     is_first: bool,
     declared: &Declared<'_>,
-) -> Result<AskedFact<'a>, AllocError>
+) -> Result<KeyPredicate<'a>, AllocError>
     ensures { IfOk result (λ f. sorted_of f ≡ sorted_beside (declarations_of declared.now) (value_of fact.now)) }
 {
     let standing = standing_of(alloc, fact)?.beside(declared.declares(fact));
-    Ok(AskedFact {
+    Ok(KeyPredicate {
         fact,
         span,
         standing,
@@ -74,10 +74,10 @@ fn asked_fact<'a>(
 }
 
 /// Returns whether one of the names and pairs is of this category.
-pub fn has_sort(asked: &[AskedFact<'_>], sort: Sort) -> bool
-    ensures { result ≡ has_sort sort (sorted_by asked.now) }
+pub fn has_sort(predicates: &[KeyPredicate<'_>], sort: Sort) -> bool
+    ensures { result ≡ has_sort sort (sorted_by predicates.now) }
 {
-    'asked: for each in asked {
+    'predicates: for each in predicates {
         if each.standing.sort().is(sort) {
             return true;
         }
@@ -87,11 +87,15 @@ pub fn has_sort(asked: &[AskedFact<'_>], sort: Sort) -> bool
 
 /// Returns the names and keys whose facts are open, each as often as it occurs: those that depend on flags, and those
 /// whose facts only Cargo or `--cfg` set. Fails if memory is refused.
-pub fn open_names<'a>(alloc: Global, asked: &[AskedFact<'a>]) -> Result<Vec<&'a str>, AllocError>
-    ensures { IfOk result (λ names. names_of names.items ≡ flag_names ++ flat_map opened_by (sorted_by asked.now)) }
+pub fn open_names<'a>(
+    alloc: Global,
+    predicates: &[KeyPredicate<'a>],
+) -> Result<Vec<&'a str>, AllocError>
+    ensures { IfOk result (λ names. names_of names.items ≡ flag_names ++ flat_map opened_by
+        (sorted_by predicates.now)) }
 {
     let mut open = open_flags(alloc)?;
-    'asked: for each in asked {
+    'predicates: for each in predicates {
         push_open(&mut open, each)?;
     }
     Ok(open)
@@ -109,11 +113,11 @@ fn open_flags<'a>(alloc: Global) -> Result<Vec<&'a str>, AllocError>
 }
 
 /// Appends the name or key of a fact that is open.
-fn push_open<'a>(names: &mut Vec<&'a str>, asked: &AskedFact<'a>) -> Result<(), AllocError>
-    ensures { OnOk result (names_of names.new.items ≡ names_of names.old.items ++ opened_by (sorted_of asked.now)) }
+fn push_open<'a>(names: &mut Vec<&'a str>, predicate: &KeyPredicate<'a>) -> Result<(), AllocError>
+    ensures { OnOk result (names_of names.new.items ≡ names_of names.old.items ++ opened_by (sorted_of predicate.now)) }
 {
-    if asked.standing.sort().is_open() {
-        names.push(name_in(asked.fact))?;
+    if predicate.standing.sort().is_open() {
+        names.push(name_in(predicate.fact))?;
     }
     Ok(())
 }
