@@ -6,5 +6,5 @@ mod making;
 mod table;
 
 pub use answers::{Outcome, find_way};
-pub use making::{Goal, as_wanted, number_of};
+pub use making::{Goal, as_wanted, is_same};
 pub use table::Choice;

@@ -18,12 +18,13 @@ ghost use Rattle.exact_answers.specs.Inside.Ahead.{both, gathered, meets, done, 
 ghost use Rattle.exact_answers.specs.Inside.Ahead.{table_pairs, AreAmong, HasNumber, AsksAmong};
 ghost use Rattle.exact_answers.specs.Inside.Ahead.{IsOutlook, Fits, IsOpenAt, IsSeen, Says, Covers, AreTold, IsNext};
 
-use crate::goal_diagrams::{Goal, number_of};
+use crate::goal_diagrams::{Goal, is_same};
 use crate::path::Path;
 use crate::search::Step;
 use cargo_platform::{Cfg, CfgExpr};
 use partial_facts::Knowledge;
 use std::alloc::{AllocError, Global};
+use std::collections::BTreeMap;
 
 /// A step that evaluates whether goals are met. The results are a list, to which each step appends.
 #[derive(Clone, Copy)]
@@ -81,15 +82,21 @@ impl<'a> Outlook<'a> {
         outlook
             .operations
             .push(Operation::Group(true, goals.len()))?;
+        let mut numbers = BTreeMap::new(alloc);
         'goals: while let Some(goal) = pending.pop() {
-            outlook.add(&mut pending, goal)?;
+            outlook.add(&mut pending, &mut numbers, goal)?;
         }
         outlook.operations.reverse();
         Ok(outlook)
     }
 
     /// Adds what a goal is made of: an operation, the goals inside it, or both.
-    fn add(&mut self, pending: &mut Vec<Goal<'a>>, goal: Goal<'a>) -> Result<(), AllocError>
+    fn add(
+        &mut self,
+        pending: &mut Vec<Goal<'a>>,
+        numbers: &mut BTreeMap<&'a Cfg, usize>,
+        goal: Goal<'a>,
+    ) -> Result<(), AllocError>
         ensures same { OnOk result ((s : FactSet) → outcome s self.new (reverse pending.new.items)
             ≡ outcome s self.old (goal.entry ∷ reverse pending.old.items)) }
         ensures size { OnOk result (goals_size pending.new.items + 1
@@ -120,7 +127,7 @@ impl<'a> Outlook<'a> {
                 add_members(pending, members, wanted)
             }
             CfgExpr::Value(c) => {
-                let number = number_or_next(&mut self.pairs, c)?;
+                let number = number_or_next(&mut self.pairs, numbers, c)?;
                 self.operations.push(Operation::Pair(c, wanted, number))?;
                 Ok(())
             }
@@ -184,18 +191,40 @@ fn add_members<'a>(
     Ok(())
 }
 
-/// Returns the number of the pair. A new pair gets the next one.
-fn number_or_next<'a>(pairs: &mut Vec<&'a Cfg>, c: &'a Cfg) -> Result<usize, AllocError>
+/// Returns the number that is recorded for the pair, if the pair has it.
+fn recorded_number<'a>(
+    pairs: &[&'a Cfg],
+    numbers: &BTreeMap<&'a Cfg, usize>,
+    c: &'a Cfg,
+) -> Option<usize>
+    ensures { IfSome result (λ n. StandsAt (pairs_of pairs.now) n (pair_of (value_of c.now))) }
+{
+    let number = *numbers.get(&c)?;
+    if number < pairs.len() && is_same(c, pairs[number]) {
+        Some(number)
+    } else {
+        None
+    }
+}
+
+/// Returns the number of the pair. A new pair gets the next one, which is recorded, since a condition may have many
+/// pairs.
+fn number_or_next<'a>(
+    pairs: &mut Vec<&'a Cfg>,
+    numbers: &mut BTreeMap<&'a Cfg, usize>,
+    c: &'a Cfg,
+) -> Result<usize, AllocError>
     ensures number { IfOk result (λ n. StandsAt (pairs_of pairs.new.items) n (pair_of (value_of c.now))) }
     ensures kept { OnOk result ((n : ℕ) (p : Pair) → StandsAt (pairs_of pairs.old.items) n p
         → StandsAt (pairs_of pairs.new.items) n p) }
     ensures among { OnOk result ((among : Pair → Bool) → among (pair_of (value_of c.now)) ≡ true
         → AreAmong among (pairs_of pairs.old.items) → AreAmong among (pairs_of pairs.new.items)) }
 {
-    match number_of(pairs, c) {
+    match recorded_number(pairs, numbers, c) {
         Some(number) => Ok(number),
         None => {
             let number = pairs.len();
+            let _none = numbers.insert(c, number)?;
             pairs.push(c)?;
             Ok(number)
         }

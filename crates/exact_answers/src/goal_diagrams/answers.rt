@@ -9,7 +9,7 @@ ghost use Rattle.exact_answers.specs.Diagrams.{nodes_of, places, AreEarlier, IsT
 ghost use Rattle.exact_answers.specs.Goals.{goals_met, HasOneOpenValue, pairs_of, SaysOutcome, IsAsTold};
 ghost use Rattle.exact_answers.specs.Inside.Making.{says};
 
-use crate::goal_diagrams::making::{Asked, Goal, goals_made, single_values};
+use crate::goal_diagrams::making::{Goal, Query, goals_made, single_values};
 use crate::goal_diagrams::table::{Choice, Stop, Table};
 use cargo_platform::Cfg;
 use partial_facts::Knowledge;
@@ -40,19 +40,19 @@ fn unmade(stop: Stop) -> Result<Outcome, AllocError>
 
 /// Returns the place of the sets over which each goal is met and no key in `single` has two values.
 fn all_made<K: Knowledge>(
-    asked: &Asked<'_, '_, K>,
+    query: &Query<'_, '_, K>,
     table: &mut Table,
     goals: &[Goal<'_>],
     single: &[&str],
 ) -> Result<usize, Stop>
     requires { IsTable (nodes_of table.old) table.old.joined.items }
     ensures made { IfOk result (IsMade table.old table.new) }
-    ensures means { IfOk result (λ place. (s : FactSet) → IsAsTold (K.told asked.now.known.now) s
-        → HasOneOpenValue (K.told asked.now.known.now) (names_of single.now) s
-        → says s asked.now.pairs.now table.new place ≡ goals_met s goals.now) }
+    ensures means { IfOk result (λ place. (s : FactSet) → IsAsTold (K.told query.now.known.now) s
+        → HasOneOpenValue (K.told query.now.known.now) (names_of single.now) s
+        → says s query.now.pairs.now table.new place ≡ goals_met s goals.now) }
 {
-    let among = single_values(asked, table, single)?;
-    goals_made(asked, table, among, goals)
+    let among = single_values(query, table, single)?;
+    goals_made(query, table, among, goals)
 }
 
 /// Returns choices that lead from this place to what is true.
@@ -86,8 +86,8 @@ pub fn find_way<K: Knowledge>(
         → SaysOutcome r s (pairs_of pairs.now) (goals_met s goals.now)) }
 {
     let mut table = Table::new(alloc, most_nodes)?;
-    let asked = Asked { known, pairs };
-    match all_made(&asked, &mut table, goals, single) {
+    let query = Query { known, pairs };
+    match all_made(&query, &mut table, goals, single) {
         Ok(place) => way_from(alloc, &table, place),
         Err(stop) => unmade(stop),
     }

@@ -30,13 +30,13 @@ const MOST_LEVELS: usize = 500;
 
 /// The query: what is known, and the pairs in the order in which nodes test them.
 #[derive(Drop)]
-pub struct Asked<'a, 'b, K> {
+pub struct Query<'a, 'b, K> {
     pub known: &'b K,
     pub pairs: &'b [&'a Cfg],
 }
 
 /// Returns whether both are the same pair.
-fn is_same(c: &Cfg, other: &Cfg) -> bool
+pub fn is_same(c: &Cfg, other: &Cfg) -> bool
     ensures { result ≡ eq_by_cmp pair_cmp (pair_of (value_of c.now)) (pair_of (value_of other.now)) }
 {
     c == other
@@ -122,20 +122,20 @@ fn are_two_values(c: &Cfg, other: &Cfg, single: &[&str]) -> bool
 
 /// Returns the place of the sets over which a name or a pair has the wanted truth.
 fn value_made<K: Knowledge>(
-    asked: &Asked<'_, '_, K>,
+    query: &Query<'_, '_, K>,
     table: &mut Table,
     c: &Cfg,
     wanted: bool,
 ) -> Result<usize, Stop>
     requires { IsTable (nodes_of table.old) table.old.joined.items }
     ensures made { IfOk result (IsMade table.old table.new) }
-    ensures means { IfOk result (λ place. (s : FactSet) → IsAsTold (K.told asked.now.known.now) s
-        → says s asked.now.pairs.now table.new place
+    ensures means { IfOk result (λ place. (s : FactSet) → IsAsTold (K.told query.now.known.now) s
+        → says s query.now.pairs.now table.new place
         ≡ true_as_wanted wanted (contains s (pair_of (value_of c.now)))) }
 {
-    match asked.known.tells(c) {
+    match query.known.tells(c) {
         Some(truth) => Ok(literal(as_wanted(truth, wanted))),
-        None => match number_of(asked.pairs, c) {
+        None => match number_of(query.pairs, c) {
             Some(number) => table.pair(number, wanted),
             None => Err(Stop::TooLarge),
         },
@@ -144,7 +144,7 @@ fn value_made<K: Knowledge>(
 
 /// Returns the place of the sets, among those of a place, over which a name or a pair has the wanted truth.
 fn value_joined<K: Knowledge>(
-    asked: &Asked<'_, '_, K>,
+    query: &Query<'_, '_, K>,
     table: &mut Table,
     among: usize,
     c: &Cfg,
@@ -153,19 +153,19 @@ fn value_joined<K: Knowledge>(
     requires table { IsTable (nodes_of table.old) table.old.joined.items }
     requires among { among < places (nodes_of table.old) }
     ensures made { IfOk result (IsMade table.old table.new) }
-    ensures means { IfOk result (λ place. (s : FactSet) → IsAsTold (K.told asked.now.known.now) s
-        → says s asked.now.pairs.now table.new place
-        ≡ (says s asked.now.pairs.now table.old among
+    ensures means { IfOk result (λ place. (s : FactSet) → IsAsTold (K.told query.now.known.now) s
+        → says s query.now.pairs.now table.new place
+        ≡ (says s query.now.pairs.now table.old among
         && true_as_wanted wanted (contains s (pair_of (value_of c.now))))) }
 {
-    let place = value_made(asked, table, c, wanted)?;
+    let place = value_made(query, table, c, wanted)?;
     table.join(true, among, place)
 }
 
 /// Returns the place of the sets, among those of a place, over which an expression has the wanted truth.
 #[cycle(made)]
 fn made<K: Knowledge>(
-    asked: &Asked<'_, '_, K>,
+    query: &Query<'_, '_, K>,
     table: &mut Table,
     among: usize,
     e: &CfgExpr,
@@ -175,23 +175,23 @@ fn made<K: Knowledge>(
     requires table { IsTable (nodes_of table.old) table.old.joined.items }
     requires among { among < places (nodes_of table.old) }
     ensures made { IfOk result (IsMade table.old table.new) }
-    ensures means { IfOk result (λ place. (s : FactSet) → IsAsTold (K.told asked.now.known.now) s
-        → says s asked.now.pairs.now table.new place
-        ≡ (says s asked.now.pairs.now table.old among
+    ensures means { IfOk result (λ place. (s : FactSet) → IsAsTold (K.told query.now.known.now) s
+        → says s query.now.pairs.now table.new place
+        ≡ (says s query.now.pairs.now table.old among
         && true_as_wanted wanted (truth s (tree_of e.now)))) }
 {
     if levels == 0 {
         return Err(Stop::TooLarge);
     }
     match e {
-        CfgExpr::Not(inner) => made(asked, table, among, inner, !wanted, levels - 1),
+        CfgExpr::Not(inner) => made(query, table, among, inner, !wanted, levels - 1),
         CfgExpr::All(members) => {
-            group_made(asked, table, among, members, wanted, wanted, levels - 1)
+            group_made(query, table, among, members, wanted, wanted, levels - 1)
         }
         CfgExpr::Any(members) => {
-            group_made(asked, table, among, members, !wanted, wanted, levels - 1)
+            group_made(query, table, among, members, !wanted, wanted, levels - 1)
         }
-        CfgExpr::Value(c) => value_joined(asked, table, among, c, wanted),
+        CfgExpr::Value(c) => value_joined(query, table, among, c, wanted),
         CfgExpr::True => table.join(true, among, literal(wanted)),
         CfgExpr::False => table.join(true, among, literal(!wanted)),
     }
@@ -201,7 +201,7 @@ fn made<K: Knowledge>(
 /// it.
 #[cycle(made)]
 fn group_made<K: Knowledge>(
-    asked: &Asked<'_, '_, K>,
+    query: &Query<'_, '_, K>,
     table: &mut Table,
     among: usize,
     members: &[CfgExpr],
@@ -212,15 +212,15 @@ fn group_made<K: Knowledge>(
     requires table { IsTable (nodes_of table.old) table.old.joined.items }
     requires among { among < places (nodes_of table.old) }
     ensures made { IfOk result (IsMade table.old table.new) }
-    ensures means { IfOk result (λ place. (s : FactSet) → IsAsTold (K.told asked.now.known.now) s
-        → says s asked.now.pairs.now table.new place
-        ≡ (says s asked.now.pairs.now table.old among
+    ensures means { IfOk result (λ place. (s : FactSet) → IsAsTold (K.told query.now.known.now) s
+        → says s query.now.pairs.now table.new place
+        ≡ (says s query.now.pairs.now table.old among
         && group_wanted each wanted s (map tree_of members.now))) }
 {
     if each {
-        each_made(asked, table, among, members, wanted, levels)
+        each_made(query, table, among, members, wanted, levels)
     } else {
-        let place = some_made(asked, table, members, wanted, levels)?;
+        let place = some_made(query, table, members, wanted, levels)?;
         table.join(true, among, place)
     }
 }
@@ -228,7 +228,7 @@ fn group_made<K: Knowledge>(
 /// Returns the place of the sets over which each member has the wanted truth.
 #[cycle(made)]
 fn each_made<K: Knowledge>(
-    asked: &Asked<'_, '_, K>,
+    query: &Query<'_, '_, K>,
     table: &mut Table,
     among: usize,
     members: &[CfgExpr],
@@ -238,15 +238,15 @@ fn each_made<K: Knowledge>(
     requires table { IsTable (nodes_of table.old) table.old.joined.items }
     requires among { among < places (nodes_of table.old) }
     ensures made { IfOk result (IsMade table.old table.new) }
-    ensures means { IfOk result (λ place. (s : FactSet) → IsAsTold (K.told asked.now.known.now) s
-        → says s asked.now.pairs.now table.new place
-        ≡ (says s asked.now.pairs.now table.old among
+    ensures means { IfOk result (λ place. (s : FactSet) → IsAsTold (K.told query.now.known.now) s
+        → says s query.now.pairs.now table.new place
+        ≡ (says s query.now.pairs.now table.old among
         && each_wanted wanted s (map tree_of members.now))) }
 {
     let mut place = among;
     let mut left = members;
     'members: while let Some((e, others)) = left.split_first() {
-        let next = made(asked, table, place, e, wanted, levels)?;
+        let next = made(query, table, place, e, wanted, levels)?;
         place = next;
         left = others;
     }
@@ -256,7 +256,7 @@ fn each_made<K: Knowledge>(
 /// Returns the place of the sets over which some member has the wanted truth.
 #[cycle(made)]
 fn some_made<K: Knowledge>(
-    asked: &Asked<'_, '_, K>,
+    query: &Query<'_, '_, K>,
     table: &mut Table,
     members: &[CfgExpr],
     wanted: bool,
@@ -264,14 +264,14 @@ fn some_made<K: Knowledge>(
 ) -> Result<usize, Stop>
     requires { IsTable (nodes_of table.old) table.old.joined.items }
     ensures made { IfOk result (IsMade table.old table.new) }
-    ensures means { IfOk result (λ place. (s : FactSet) → IsAsTold (K.told asked.now.known.now) s
-        → says s asked.now.pairs.now table.new place
+    ensures means { IfOk result (λ place. (s : FactSet) → IsAsTold (K.told query.now.known.now) s
+        → says s query.now.pairs.now table.new place
         ≡ some_wanted wanted s (map tree_of members.now)) }
 {
     let mut place = FALSE;
     let mut left = members;
     'members: while let Some((e, others)) = left.split_first() {
-        let next = made(asked, table, TRUE, e, wanted, levels)?;
+        let next = made(query, table, TRUE, e, wanted, levels)?;
         let both = table.join(false, place, next)?;
         place = both;
         left = others;
@@ -281,7 +281,7 @@ fn some_made<K: Knowledge>(
 
 /// Returns the place of the sets, among those of a place, over which each goal is met.
 pub fn goals_made<K: Knowledge>(
-    asked: &Asked<'_, '_, K>,
+    query: &Query<'_, '_, K>,
     table: &mut Table,
     among: usize,
     goals: &[Goal<'_>],
@@ -289,24 +289,24 @@ pub fn goals_made<K: Knowledge>(
     requires table { IsTable (nodes_of table.old) table.old.joined.items }
     requires among { among < places (nodes_of table.old) }
     ensures made { IfOk result (IsMade table.old table.new) }
-    ensures means { IfOk result (λ place. (s : FactSet) → IsAsTold (K.told asked.now.known.now) s
-        → says s asked.now.pairs.now table.new place
-        ≡ (says s asked.now.pairs.now table.old among
+    ensures means { IfOk result (λ place. (s : FactSet) → IsAsTold (K.told query.now.known.now) s
+        → says s query.now.pairs.now table.new place
+        ≡ (says s query.now.pairs.now table.old among
         && goals_met s goals.now)) }
 {
     let mut place = among;
     for goal in goals {
-        let next = made(asked, table, place, goal.e, goal.wanted, MOST_LEVELS)?;
+        let next = made(query, table, place, goal.e, goal.wanted, MOST_LEVELS)?;
         place = next;
     }
     Ok(place)
 }
 
 /// Returns whether it is not known if the pair is a fact.
-fn is_open<K: Knowledge>(asked: &Asked<'_, '_, K>, c: &Cfg) -> bool
-    ensures { result ≡ true → K.told asked.now.known.now (pair_of (value_of c.now)) ≡ None }
+fn is_open<K: Knowledge>(query: &Query<'_, '_, K>, c: &Cfg) -> bool
+    ensures { result ≡ true → K.told query.now.known.now (pair_of (value_of c.now)) ≡ None }
 {
-    match asked.known.tells(c) {
+    match query.known.tells(c) {
         Some(_) => false,
         None => true,
     }
@@ -314,23 +314,23 @@ fn is_open<K: Knowledge>(asked: &Asked<'_, '_, K>, c: &Cfg) -> bool
 
 /// Returns whether the pairs with these numbers are both open, and two values of a key that has one value.
 fn are_apart<K: Knowledge>(
-    asked: &Asked<'_, '_, K>,
+    query: &Query<'_, '_, K>,
     single: &[&str],
     one: usize,
     other: usize,
 ) -> bool
-    requires one { one < length asked.now.pairs.now }
-    requires other { other < length asked.now.pairs.now }
+    requires one { one < length query.now.pairs.now }
+    requires other { other < length query.now.pairs.now }
     ensures { result ≡ true → (s : FactSet)
-        → HasOneOpenValue (K.told asked.now.known.now) (names_of single.now) s
-        → AreApart (holds_in s (pairs_of asked.now.pairs.now)) one other }
+        → HasOneOpenValue (K.told query.now.known.now) (names_of single.now) s
+        → AreApart (holds_in s (pairs_of query.now.pairs.now)) one other }
 {
-    let first = pair_at(asked.pairs, one);
-    let second = pair_at(asked.pairs, other);
+    let first = pair_at(query.pairs, one);
+    let second = pair_at(query.pairs, other);
     let two = are_two_values(first, second, single);
     if two {
-        let first_open = is_open(asked, first);
-        let second_open = is_open(asked, second);
+        let first_open = is_open(query, first);
+        let second_open = is_open(query, second);
         if first_open { second_open } else { false }
     } else {
         false
@@ -340,7 +340,7 @@ fn are_apart<K: Knowledge>(
 /// Returns the place of the sets, among those of a place, without the other pair, if both are two values of a key that
 /// has one value.
 fn without_other<K: Knowledge>(
-    asked: &Asked<'_, '_, K>,
+    query: &Query<'_, '_, K>,
     table: &mut Table,
     among: usize,
     single: &[&str],
@@ -349,16 +349,16 @@ fn without_other<K: Knowledge>(
 ) -> Result<usize, Stop>
     requires table { IsTable (nodes_of table.old) table.old.joined.items }
     requires among { among < places (nodes_of table.old) }
-    requires number { number < length asked.now.pairs.now }
-    requires other { other < length asked.now.pairs.now }
+    requires number { number < length query.now.pairs.now }
+    requires other { other < length query.now.pairs.now }
     ensures made { IfOk result (IsMade table.old table.new) }
     ensures means { IfOk result (λ place. (s : FactSet)
-        → HasOneOpenValue (K.told asked.now.known.now) (names_of single.now) s
-        → holds_in s (pairs_of asked.now.pairs.now) number ≡ true
-        → says s asked.now.pairs.now table.new place
-        ≡ says s asked.now.pairs.now table.old among) }
+        → HasOneOpenValue (K.told query.now.known.now) (names_of single.now) s
+        → holds_in s (pairs_of query.now.pairs.now) number ≡ true
+        → says s query.now.pairs.now table.new place
+        ≡ says s query.now.pairs.now table.old among) }
 {
-    if are_apart(asked, single, number, other) {
+    if are_apart(query, single, number, other) {
         let place = table.pair(other, false)?;
         table.join(true, among, place)
     } else {
@@ -369,24 +369,24 @@ fn without_other<K: Knowledge>(
 /// Returns the place of the sets in which no later value of the key of this pair is a fact, if that key has one value.
 /// The last values come first, so that each takes one node.
 fn no_later_value<K: Knowledge>(
-    asked: &Asked<'_, '_, K>,
+    query: &Query<'_, '_, K>,
     table: &mut Table,
     single: &[&str],
     number: usize,
 ) -> Result<usize, Stop>
     requires table { IsTable (nodes_of table.old) table.old.joined.items }
-    requires number { number < length asked.now.pairs.now }
+    requires number { number < length query.now.pairs.now }
     ensures made { IfOk result (IsMade table.old table.new) }
     ensures means { IfOk result (λ place. (s : FactSet)
-        → HasOneOpenValue (K.told asked.now.known.now) (names_of single.now) s
-        → holds_in s (pairs_of asked.now.pairs.now) number ≡ true
-        → says s asked.now.pairs.now table.new place ≡ true) }
+        → HasOneOpenValue (K.told query.now.known.now) (names_of single.now) s
+        → holds_in s (pairs_of query.now.pairs.now) number ≡ true
+        → says s query.now.pairs.now table.new place ≡ true) }
 {
     let mut place = TRUE;
-    let mut other = asked.pairs.len();
+    let mut other = query.pairs.len();
     'others: while other - 1 > number {
         other -= 1;
-        let next = without_other(asked, table, place, single, number, other)?;
+        let next = without_other(query, table, place, single, number, other)?;
         place = next;
     }
     Ok(place)
@@ -394,40 +394,40 @@ fn no_later_value<K: Knowledge>(
 
 /// Returns the place of the sets in which the pair with this number is not a fact, or no later value of its key is.
 fn one_value<K: Knowledge>(
-    asked: &Asked<'_, '_, K>,
+    query: &Query<'_, '_, K>,
     table: &mut Table,
     single: &[&str],
     number: usize,
 ) -> Result<usize, Stop>
     requires table { IsTable (nodes_of table.old) table.old.joined.items }
-    requires number { number < length asked.now.pairs.now }
+    requires number { number < length query.now.pairs.now }
     ensures made { IfOk result (IsMade table.old table.new) }
     ensures means { IfOk result (λ place. (s : FactSet)
-        → HasOneOpenValue (K.told asked.now.known.now) (names_of single.now) s
-        → says s asked.now.pairs.now table.new place ≡ true) }
+        → HasOneOpenValue (K.told query.now.known.now) (names_of single.now) s
+        → says s query.now.pairs.now table.new place ≡ true) }
 {
-    let others = no_later_value(asked, table, single, number)?;
+    let others = no_later_value(query, table, single, number)?;
     let without = table.pair(number, false)?;
     table.join(false, others, without)
 }
 
 /// Returns the place of the sets in which no key among these has two open values.
 pub fn single_values<K: Knowledge>(
-    asked: &Asked<'_, '_, K>,
+    query: &Query<'_, '_, K>,
     table: &mut Table,
     single: &[&str],
 ) -> Result<usize, Stop>
     requires { IsTable (nodes_of table.old) table.old.joined.items }
     ensures made { IfOk result (IsMade table.old table.new) }
     ensures means { IfOk result (λ place. (s : FactSet)
-        → HasOneOpenValue (K.told asked.now.known.now) (names_of single.now) s
-        → says s asked.now.pairs.now table.new place ≡ true) }
+        → HasOneOpenValue (K.told query.now.known.now) (names_of single.now) s
+        → says s query.now.pairs.now table.new place ≡ true) }
 {
     let mut place = TRUE;
-    let mut number = asked.pairs.len();
+    let mut number = query.pairs.len();
     'numbers: while number > 0 {
         number -= 1;
-        let next = one_value(asked, table, single, number)?;
+        let next = one_value(query, table, single, number)?;
         let both = table.join(true, place, next)?;
         place = both;
     }

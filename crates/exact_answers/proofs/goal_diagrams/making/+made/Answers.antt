@@ -16,7 +16,7 @@ made-returns-in-Not-clause-means g t c =
     (λ place is s told.
     let inner : c.deref.result.now ≡ box_value c.in-Not.inner = cc in
     is s told
-    ∙ ap (λ b. says s c.args.asked.now.pairs.now c.args.table.now c.args.among && b)
+    ∙ ap (λ b. says s c.args.query.now.pairs.now c.args.table.now c.args.among && b)
     (of_not s c.args.wanted c.args.e.now c.deref.result.now c.in-Not.inner inner c.in-Not.is))
     c.made.ensures.means
 
@@ -25,7 +25,7 @@ made-returns-in-All-clause-means g t c =
     IfOk-weaker c.group_made.result _ _
     (λ place is s told.
     is s told
-    ∙ ap (λ b. says s c.args.asked.now.pairs.now c.args.table.now c.args.among && b)
+    ∙ ap (λ b. says s c.args.query.now.pairs.now c.args.table.now c.args.among && b)
     (of_all s c.args.wanted c.args.e.now c.in-All.members c.deref-in-All.result.now c.in-All.is
     c.deref-in-All.ensures.value))
     c.group_made.ensures.means
@@ -35,7 +35,7 @@ made-returns-in-Any-clause-means g t c =
     IfOk-weaker c.group_made-in-Any.result _ _
     (λ place is s told.
     is s told
-    ∙ ap (λ b. says s c.args.asked.now.pairs.now c.args.table.now c.args.among && b)
+    ∙ ap (λ b. says s c.args.query.now.pairs.now c.args.table.now c.args.among && b)
     (of_any s c.args.wanted c.args.e.now c.in-Any.members c.deref-in-Any.result.now c.in-Any.is
     c.deref-in-Any.ensures.value))
     c.group_made-in-Any.ensures.means
@@ -45,7 +45,7 @@ made-returns-in-Value-clause-means g t c =
     IfOk-weaker c.value_joined.result _ _
     (λ place is s told.
     is s told
-    ∙ ap (λ b. says s c.args.asked.now.pairs.now c.args.table.now c.args.among && b)
+    ∙ ap (λ b. says s c.args.query.now.pairs.now c.args.table.now c.args.among && b)
     (of_value s c.args.wanted c.args.e.now c.in-Value.c c.in-Value.is))
     c.value_joined.ensures.means
 
@@ -53,9 +53,9 @@ pub made-returns-in-True-clause-means : goal.made-returns-in-True-clause-means
 made-returns-in-True-clause-means g t c =
     IfOk-weaker c.join.result _ _
     (λ place is s told.
-    literal-step s c.args.asked.now.pairs.now c.args.table.now c.join.new.self c.args.among c.literal.result place
+    literal-step s c.args.query.now.pairs.now c.args.table.now c.join.new.self c.args.among c.literal.result place
     c.args.wanted c.literal.ensures is
-    ∙ ap (λ b. says s c.args.asked.now.pairs.now c.args.table.now c.args.among && b)
+    ∙ ap (λ b. says s c.args.query.now.pairs.now c.args.table.now c.args.among && b)
     (of_true s c.args.wanted c.args.e.now c.in-True.is))
     c.join.ensures.means
 
@@ -63,9 +63,9 @@ pub made-returns-in-False-clause-means : goal.made-returns-in-False-clause-means
 made-returns-in-False-clause-means g t c =
     IfOk-weaker c.join-in-False.result _ _
     (λ place is s told.
-    literal-step s c.args.asked.now.pairs.now c.args.table.now c.join-in-False.new.self c.args.among
+    literal-step s c.args.query.now.pairs.now c.args.table.now c.join-in-False.new.self c.args.among
     c.literal-in-False.result place (not c.args.wanted) c.literal-in-False.ensures is
-    ∙ ap (λ b. says s c.args.asked.now.pairs.now c.args.table.now c.args.among && b)
+    ∙ ap (λ b. says s c.args.query.now.pairs.now c.args.table.now c.args.among && b)
     (of_false s c.args.wanted c.args.e.now c.in-False.is))
     c.join-in-False.ensures.means
 
@@ -76,7 +76,7 @@ group_made-returns-then-each-clause-means g t c =
     IfOk-weaker c.each_made.result _ _
     (λ place is s told.
     is s told
-    ∙ ap (λ b. says s c.args.asked.now.pairs.now c.args.table.now c.args.among
+    ∙ ap (λ b. says s c.args.query.now.pairs.now c.args.table.now c.args.among
     && group_wanted b c.args.wanted s (map tree_of c.args.members.now)) (sym c.if-each.true))
     c.each_made.ensures.means
 
@@ -91,9 +91,9 @@ pub group_made-returns-in_ok-place-clause-means : goal.group_made-returns-in_ok-
 group_made-returns-in_ok-place-clause-means g t c =
     IfOk-weaker c.join.result _ _
     (λ both is s told.
-    and-step s c.args.asked.now.pairs.now c.args.table.now c.some_made.new.table c.join.new.self c.args.among
+    and-step s c.args.query.now.pairs.now c.args.table.now c.some_made.new.table c.join.new.self c.args.among
     c.in_ok-place.place both _ c.requires.among c.in_ok-place.ensures.made (c.in_ok-place.ensures.means s told) is
-    ∙ ap (λ b. says s c.args.asked.now.pairs.now c.args.table.now c.args.among
+    ∙ ap (λ b. says s c.args.query.now.pairs.now c.args.table.now c.args.among
     && group_wanted b c.args.wanted s (map tree_of c.args.members.now)) (sym c.if-each.false))
     c.join.ensures.means
 
@@ -126,7 +126,7 @@ pub some_made-members-init : goal.some_made-members-init
 some_made-members-init g t c =
     record {
       made = none-made c.args.table.now 0 c.requires (omega arith);
-      means = λ s told. none_yet s c.args.asked.now.pairs.now c.args.table.now _;
+      means = λ s told. none_yet s c.args.query.now.pairs.now c.args.table.now _;
     }
 
 pub some_made-members-preserved : goal.some_made-members-preserved
@@ -142,7 +142,7 @@ some_made-members-preserved g t c =
       means = λ s told.
           some_on s c.args.wanted c.members.left.now c.in-Some.others.now c.in-Some.e.now _ _ _
           c.in-Some.ensures.cases.0 (c.members.invariant.means s told)
-          (or-step s c.args.asked.now.pairs.now first second third c.members.place c.in_ok-next.next
+          (or-step s c.args.query.now.pairs.now first second third c.members.place c.in_ok-next.next
           c.in_ok-both.both _ c.members.invariant.made.inside c.in_ok-next.ensures.made
           (c.in_ok-next.ensures.means s told) c.in_ok-both.ensures.means);
     }

@@ -22,9 +22,9 @@ decreases-some_made g l = 4 * l.levels + 1
 abbrev pub invariant-each_made-members : goal.invariant-each_made-members
 invariant-each_made-members g l = record {
   made : IsMade l.fn.table l.table l.place;
-  means : (s : FactSet) → IsAsTold (g.K.Knowledge.told l.asked.known.now) s
-      → (says s l.asked.pairs.now l.table l.place && each_wanted l.wanted s (map tree_of l.left))
-      ≡ (says s l.asked.pairs.now l.fn.table l.among && each_wanted l.wanted s (map tree_of l.members));
+  means : (s : FactSet) → IsAsTold (g.K.Knowledge.told l.query.known.now) s
+      → (says s l.query.pairs.now l.table l.place && each_wanted l.wanted s (map tree_of l.left))
+      ≡ (says s l.query.pairs.now l.fn.table l.among && each_wanted l.wanted s (map tree_of l.members));
 }
 
 abbrev pub decreases-each_made-members : goal.decreases-each_made-members
@@ -33,8 +33,8 @@ decreases-each_made-members g l = length l.left
 abbrev pub invariant-some_made-members : goal.invariant-some_made-members
 invariant-some_made-members g l = record {
   made : IsMade l.fn.table l.table l.place;
-  means : (s : FactSet) → IsAsTold (g.K.Knowledge.told l.asked.known.now) s
-      → (says s l.asked.pairs.now l.table l.place || some_wanted l.wanted s (map tree_of l.left))
+  means : (s : FactSet) → IsAsTold (g.K.Knowledge.told l.query.known.now) s
+      → (says s l.query.pairs.now l.table l.place || some_wanted l.wanted s (map tree_of l.left))
       ≡ some_wanted l.wanted s (map tree_of l.members);
 }
 

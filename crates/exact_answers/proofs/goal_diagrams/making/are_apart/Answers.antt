@@ -10,8 +10,8 @@ pub returns-then-first_open : goal.returns-then-first_open
 returns-then-first_open g c = λ last s has.
     let two : c.are_two_values-two.result ≡ true = cc in
     let first : c.is_open-first_open.result ≡ true = cc in
-    values_apart (g.K.Knowledge.told c.args.asked.now.known.now) (names_of c.args.single.now) s
-    (pairs_of c.args.asked.now.pairs.now) c.args.one c.args.other (pair_of (value_of c.pair_at-first.result.now))
+    values_apart (g.K.Knowledge.told c.args.query.now.known.now) (names_of c.args.single.now) s
+    (pairs_of c.args.query.now.pairs.now) c.args.one c.args.other (pair_of (value_of c.pair_at-first.result.now))
     (pair_of (value_of c.pair_at-second.result.now)) (c.are_two_values-two.ensures two)
     (c.is_open-first_open.ensures first) (c.is_open-second_open.ensures last) c.pair_at-first.ensures
     c.pair_at-second.ensures has

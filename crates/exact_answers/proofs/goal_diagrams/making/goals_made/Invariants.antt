@@ -9,7 +9,7 @@ use Rattle.exact_answers.proofs.goal_diagrams.making.goals_made.Given as goal
 abbrev pub invariant-loop-goal : goal.invariant-loop-goal
 invariant-loop-goal g l = record {
   made : IsMade l.fn.table l.table l.place;
-  means : (s : FactSet) → IsAsTold (g.K.Knowledge.told l.asked.known.now) s
-      → (says s l.asked.pairs.now l.table l.place && goals_met s (drop l.goal-index l.goals))
-      ≡ (says s l.asked.pairs.now l.fn.table l.among && goals_met s l.goals);
+  means : (s : FactSet) → IsAsTold (g.K.Knowledge.told l.query.known.now) s
+      → (says s l.query.pairs.now l.table l.place && goals_met s (drop l.goal-index l.goals))
+      ≡ (says s l.query.pairs.now l.fn.table l.among && goals_met s l.goals);
 }

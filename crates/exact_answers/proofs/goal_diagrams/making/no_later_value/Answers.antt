@@ -10,7 +10,7 @@ others-init g c =
       later = omega arith;
       within = omega arith;
       made = none-made c.args.table.now 1 c.requires.table (omega arith);
-      means = λ s has holds. value-true (holds_in s (pairs_of c.args.asked.now.pairs.now)) (nodes_of c.args.table.now);
+      means = λ s has holds. value-true (holds_in s (pairs_of c.args.query.now.pairs.now)) (nodes_of c.args.table.now);
     }
 
 pub others-preserved : goal.others-preserved

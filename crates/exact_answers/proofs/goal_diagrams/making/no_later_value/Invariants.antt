@@ -9,11 +9,11 @@ use Rattle.exact_answers.proofs.goal_diagrams.making.no_later_value.Given as goa
 abbrev pub invariant-others : goal.invariant-others
 invariant-others g l = record {
   later : l.number < l.other;
-  within : l.other ≤ length l.asked.pairs.now;
+  within : l.other ≤ length l.query.pairs.now;
   made : IsMade l.fn.table l.table l.place;
-  means : (s : FactSet) → HasOneOpenValue (g.K.Knowledge.told l.asked.known.now) (names_of l.single) s
-      → holds_in s (pairs_of l.asked.pairs.now) l.number ≡ true
-      → says s l.asked.pairs.now l.table l.place ≡ true;
+  means : (s : FactSet) → HasOneOpenValue (g.K.Knowledge.told l.query.known.now) (names_of l.single) s
+      → holds_in s (pairs_of l.query.pairs.now) l.number ≡ true
+      → says s l.query.pairs.now l.table l.place ≡ true;
 }
 
 abbrev pub decreases-others : goal.decreases-others

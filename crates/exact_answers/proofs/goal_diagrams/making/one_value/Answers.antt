@@ -28,8 +28,8 @@ pub returns-clause-means : goal.returns-clause-means
 returns-clause-means g c =
     IfOk-weaker c.join.result _ _
     (λ place is s has.
-    one-step s c.args.asked.now.pairs.now c.no_later_value.new.table c.pair.new.self c.join.new.self
+    one-step s c.args.query.now.pairs.now c.no_later_value.new.table c.pair.new.self c.join.new.self
     c.in_ok-others.others c.in_ok-without.without place c.args.number (c.in_ok-others.ensures.means s has)
     c.in_ok-others.ensures.made.inside c.in_ok-without.ensures.made.grows
-    (c.in_ok-without.ensures.means (holds_in s (pairs_of c.args.asked.now.pairs.now))) is)
+    (c.in_ok-without.ensures.means (holds_in s (pairs_of c.args.query.now.pairs.now))) is)
     c.join.ensures.means

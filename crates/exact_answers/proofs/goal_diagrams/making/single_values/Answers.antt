@@ -10,7 +10,7 @@ numbers-init g c =
     record {
       within = omega arith;
       made = none-made c.args.table.now 1 c.requires (omega arith);
-      means = λ s has. value-true (holds_in s (pairs_of c.args.asked.now.pairs.now)) (nodes_of c.args.table.now);
+      means = λ s has. value-true (holds_in s (pairs_of c.args.query.now.pairs.now)) (nodes_of c.args.table.now);
     }
 
 pub join-requires : goal.join-requires
@@ -33,7 +33,7 @@ numbers-preserved g c =
           c.in_ok-next.ensures.made)
           c.in_ok-both.ensures.made;
       means = λ s has.
-          and-step s c.args.asked.now.pairs.now first second third c.numbers.place c.in_ok-next.next
+          and-step s c.args.query.now.pairs.now first second third c.numbers.place c.in_ok-next.next
           c.in_ok-both.both true c.numbers.invariant.made.inside c.in_ok-next.ensures.made
           (c.in_ok-next.ensures.means s has) c.in_ok-both.ensures.means
           ∙ (rw (c.numbers.invariant.means s has));

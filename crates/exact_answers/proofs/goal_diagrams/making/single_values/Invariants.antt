@@ -8,10 +8,10 @@ use Rattle.exact_answers.proofs.goal_diagrams.making.single_values.Given as goal
 
 abbrev pub invariant-numbers : goal.invariant-numbers
 invariant-numbers g l = record {
-  within : l.number ≤ length l.asked.pairs.now;
+  within : l.number ≤ length l.query.pairs.now;
   made : IsMade l.fn.table l.table l.place;
-  means : (s : FactSet) → HasOneOpenValue (g.K.Knowledge.told l.asked.known.now) (names_of l.single) s
-      → says s l.asked.pairs.now l.table l.place ≡ true;
+  means : (s : FactSet) → HasOneOpenValue (g.K.Knowledge.told l.query.known.now) (names_of l.single) s
+      → says s l.query.pairs.now l.table l.place ≡ true;
 }
 
 abbrev pub decreases-numbers : goal.decreases-numbers

@@ -23,6 +23,6 @@ pub returns-clause-means : goal.returns-clause-means
 returns-clause-means g c =
     IfOk-weaker c.join.result _ _
     (λ both is s told.
-    and-step s c.args.asked.now.pairs.now c.args.table.now c.value_made.new.table c.join.new.self c.args.among
+    and-step s c.args.query.now.pairs.now c.args.table.now c.value_made.new.table c.join.new.self c.args.among
     c.in_ok-place.place both _ c.requires.among c.in_ok-place.ensures.made (c.in_ok-place.ensures.means s told) is)
     c.join.ensures.means

@@ -19,13 +19,13 @@ returns-in-Some-clause-made g c =
 pub returns-in-Some-clause-means : goal.returns-in-Some-clause-means
 returns-in-Some-clause-means g c = λ s told.
     let p = pair_of (value_of c.args.c.now) in
-    told-step (g.K.Knowledge.told c.args.asked.now.known.now) s c.args.asked.now.pairs.now c.args.table.now p
+    told-step (g.K.Knowledge.told c.args.query.now.known.now) s c.args.query.now.pairs.now c.args.table.now p
     c.literal.result c.args.wanted c.in-Some.truth c.as_wanted.result c.literal.ensures c.as_wanted.ensures
     (sym c.tells.ensures ∙ c.in-Some.is) told
 
 pub returns-in-Some-number_of-clause-means : goal.returns-in-Some-number_of-clause-means
 returns-in-Some-number_of-clause-means g c =
-    let ps = pairs_of c.args.asked.now.pairs.now in
+    let ps = pairs_of c.args.query.now.pairs.now in
     IfOk-weaker c.pair.result _ _
     (λ place is s told.
     is (holds_in s ps) ∙ ap (true_as_wanted c.args.wanted) (holds_at s ps c.in-Some-number_of.number _

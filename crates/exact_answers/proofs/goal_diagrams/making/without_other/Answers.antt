@@ -25,9 +25,9 @@ returns-in_ok-place-clause-means g c =
     let apart : c.are_apart.result ≡ true = cc in
     IfOk-weaker c.join.result _ _
     (λ both is s has holds.
-    apart-step s c.args.asked.now.pairs.now c.args.table.now c.pair.new.self c.join.new.self c.args.among
+    apart-step s c.args.query.now.pairs.now c.args.table.now c.pair.new.self c.join.new.self c.args.among
     c.in_ok-place.place both c.args.number c.args.other (c.are_apart.ensures apart s has) holds c.requires.among
-    c.in_ok-place.ensures.made (c.in_ok-place.ensures.means (holds_in s (pairs_of c.args.asked.now.pairs.now))) is)
+    c.in_ok-place.ensures.made (c.in_ok-place.ensures.means (holds_in s (pairs_of c.args.query.now.pairs.now))) is)
     c.join.ensures.means
 
 pub returns-else-are_apart-clause-made : goal.returns-else-are_apart-clause-made
