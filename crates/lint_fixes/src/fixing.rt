@@ -1,5 +1,9 @@
 //! `lint --fix`: the suggestions of diagnostics, applied to a manifest.
 
+ghost use Rattle.std.specs.Prelude.{All, Contains, IfOk, List, ℕ, vec_len};
+ghost use Rattle.lint_fixes.specs.Fixing.{IfFixed, IsEditedTo, IsFixOf, IsSameDocument, SpellsItsTable};
+ghost use Rattle.lint_fixes.specs.Names.{IsRename};
+
 use crate::replacing::{CHANGED, FileChange, text_read, write_change};
 use crate::sameness::{Renames, is_same_manifest};
 use cargo_platform::shown_text;
@@ -222,7 +226,10 @@ impl Taken {
 
 /// Returns the fixes that can be applied together to a manifest: of several at one place the first one, and none that
 /// gives a key of `target` the name of another key.
-fn chosen_fixes(alloc: Global, fixes: Vec<Fix>, manifest: &Table) -> Result<Vec<Fix>, AllocError> {
+fn chosen_fixes(alloc: Global, fixes: Vec<Fix>, manifest: &Table) -> Result<Vec<Fix>, AllocError>
+    // Each is one of the fixes.
+    ensures { IfOk result (λ chosen. All (Contains fixes.items) chosen.items) }
+{
     let mut taken = Taken {
         starts: BTreeSet::new(alloc),
         keys: BTreeSet::new(alloc),
@@ -268,10 +275,15 @@ fn edits_of(
 }
 
 /// Returns the new names of fixes, by the old ones.
-fn renames_of(alloc: Global, fixes: &[Fix]) -> Result<Renames, AllocError> {
+fn renames_of(alloc: Global, fixes: &[Fix]) -> Result<Renames, AllocError>
+    // Each new name is that of a fix.
+    ensures { IfOk result (λ renames. (name new : List ℕ) → IsRename renames name new → IsFixOf fixes.now name new) }
+{
     let mut renames = BTreeMap::new(alloc);
     for fix in fixes {
-        let _before = renames.insert(fix.from.clone()?, fix.to.clone()?)?;
+        let from = fix.from.clone()?;
+        let to = fix.to.clone()?;
+        drop(renames.insert(from, to)?);
     }
     Ok(renames)
 }
@@ -282,7 +294,15 @@ fn fixed_text(
     text: &str,
     fixes: Vec<Fix>,
     mut removed: Vec<Span>,
-) -> Result<Outcome, AllocError> {
+) -> Result<Outcome, AllocError>
+    // A fixed text is the text, edited by the recorded edits, of which a diff is printed.
+    ensures edited { IfOk result (λ it. IfFixed it (IsEditedTo text.now)) }
+    // A fixed text is TOML, and spells the recorded table.
+    ensures spelled { IfOk result (λ it. IfFixed it SpellsItsTable) }
+    // The recorded table is that of the text, but for names that these fixes give, and as many entries of lists of
+    // allowed lints as are to be removed.
+    ensures same { IfOk result (λ it. IfFixed it (IsSameDocument text.now fixes.items (vec_len removed))) }
+{
     let Some(manifest) = table_of(alloc, text)? else {
         return Ok(Outcome::Unchanged);
     };
@@ -290,6 +310,7 @@ fn fixed_text(
     if fixes.is_empty() && removed.is_empty() {
         return Ok(Outcome::Unchanged);
     }
+    let count = removed.len();
     removed.sort_by_key(|span| span.start)?;
     let unmarked = without_mark(text);
     let mark = text.len().saturating_sub(unmarked.len());
@@ -299,14 +320,14 @@ fn fixed_text(
         return Ok(Outcome::Refused("the fixed text would not be TOML"));
     };
     let renames = renames_of(alloc, &fixes)?;
-    if !is_same_manifest(alloc, &manifest, &table, &renames, removed.len())? {
+    if !is_same_manifest(alloc, &manifest, &table, &renames, count)? {
         return Ok(Outcome::Refused("the fixed text would be another document"));
     }
     Ok(Outcome::Fixed(FixedText {
         text: fixed,
         table,
         edits,
-        count: fixes.len().saturating_add(removed.len()),
+        count: fixes.len().saturating_add(count),
     }))
 }
 

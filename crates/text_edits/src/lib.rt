@@ -5,8 +5,6 @@ mod diffs;
 mod edits;
 mod hunks;
 pub mod laws;
-#[cfg(test)]
-mod tests;
 
 pub use diffs::unified_diff;
 pub use edits::{Applied, Edit, apply};

@@ -4,8 +4,6 @@
 mod cursor;
 mod names;
 mod spans;
-#[cfg(test)]
-mod tests;
 
 pub use cursor::{Cursor, Position};
 pub use names::{name_at_front, part_of_name, spells};

@@ -1,0 +1,4 @@
+pub mod Members
+pub mod NameMaps
+pub mod Renaming
+pub mod GivenNames
