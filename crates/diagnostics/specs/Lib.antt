@@ -1,2 +1,2 @@
-pub mod Weights
-pub mod WeightLaws
+pub mod LintLevels
+pub mod LevelLaws

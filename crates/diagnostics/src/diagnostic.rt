@@ -2,9 +2,9 @@
 
 ghost use Rattle.std.specs.Prelude.{◌↔◌, ◌≡◌};
 ghost use Rattle.key_answers.specs.declared.answer.Status.TheVariants.{Fine, Found};
-ghost use Rattle.diagnostics.specs.Weights.{Fails};
+ghost use Rattle.diagnostics.specs.LintLevels.{Fails};
 
-use crate::weight_rules::{Weighed, Weight};
+use crate::level_rules::{LintLevel, Occurrence};
 use cargo_platform::shown_start;
 use key_answers::answer::Status;
 use manifest_lints_findings::{Children, Code, Level, Lint};
@@ -25,7 +25,7 @@ pub struct Diagnostic {
     /// The lint. `None` if a file cannot be used, or Cargo rejects something that no lint is about.
     pub lint: Option<Lint>,
     /// The level if no rule applies.
-    pub weight: Weight,
+    pub level: LintLevel,
     /// The part of the manifest that the diagnostic is about, without the key: `target`, or a table. It is empty if the
     /// diagnostic is about no part.
     pub subject: String,
@@ -66,12 +66,12 @@ impl Diagnostic {
     }
 
     /// Returns the properties on which rules depend, if rules can change its level.
-    pub fn weighed(&self) -> Option<Weighed<'_>> {
+    pub fn occurrence(&self) -> Option<Occurrence<'_>> {
         match self.lint {
-            Some(lint) => Some(Weighed {
+            Some(lint) => Some(Occurrence {
                 lint,
                 key: self.key(),
-                weight: self.weight,
+                level: self.level,
             }),
             None => None,
         }
@@ -147,7 +147,7 @@ impl Diagnostic {
 pub struct Reported<'a> {
     pub diagnostic: &'a Diagnostic,
     /// The level after the rules.
-    pub weight: Weight,
+    pub level: LintLevel,
     /// The path of the manifest, as it is displayed. It is empty if the diagnostic is about no file.
     pub path: &'a str,
     /// The text of the manifest.
@@ -175,41 +175,41 @@ pub fn end_of(text: &str, at: Location) -> Position {
     start.behind(at.span.text_in(text).unwrap_or(""))
 }
 
-/// Returns the weight of a diagnostic of this level if no rule applies to it.
-pub fn weight_of(level: Level) -> Weight {
+/// Returns the level of a diagnostic on a finding of this level, if no rule applies to it.
+pub fn lint_level(level: Level) -> LintLevel {
     match level {
-        Level::Error => Weight::Error,
-        Level::Warning => Weight::Warning,
-        Level::Note => Weight::Note,
+        Level::Error => LintLevel::Error,
+        Level::Warning => LintLevel::Warning,
+        Level::Note => LintLevel::Note,
     }
 }
 
-/// Returns the weight of a diagnostic of this lint if no rule applies to it: `not-canonical` is then allowed.
-pub fn own_weight(lint: Lint, level: Level) -> Weight {
+/// Returns the level of a diagnostic of this lint if no rule applies to it: `not-canonical` is then allowed.
+pub fn default_level(lint: Lint, level: Level) -> LintLevel {
     match lint {
-        Lint::Key(Code::NotCanonical) => Weight::Allowed,
-        _ => weight_of(level),
+        Lint::Key(Code::NotCanonical) => LintLevel::Allowed,
+        _ => lint_level(level),
     }
 }
 
 /// Returns the name of a level.
-pub fn weight_word(weight: Weight) -> &'static str {
-    match weight {
-        Weight::Allowed => "allowed",
-        Weight::Note => "note",
-        Weight::Warning => "warning",
-        Weight::Error => "error",
+pub fn level_word(level: LintLevel) -> &'static str {
+    match level {
+        LintLevel::Allowed => "allowed",
+        LintLevel::Note => "note",
+        LintLevel::Warning => "warning",
+        LintLevel::Error => "error",
     }
 }
 
-/// Returns the exit status for a diagnostic of this weight: `Found` if the weight is `fails_from` or a more severe one,
+/// Returns the exit status for a diagnostic of this level: `Found` if the level is `fails_from` or a more severe one,
 /// and else `Fine`. If `fails_from` is `None`, no diagnostic makes the run fail.
-pub fn status_of(weight: Weight, fails_from: Option<Weight>) -> Status
-    ensures found { (result ≡ Found) ↔ Fails fails_from weight }
-    ensures fine { (result ≡ Fine) ↔ (Fails fails_from weight → ⊥) }
+pub fn status_of(level: LintLevel, fails_from: Option<LintLevel>) -> Status
+    ensures found { (result ≡ Found) ↔ Fails fails_from level }
+    ensures fine { (result ≡ Fine) ↔ (Fails fails_from level → ⊥) }
 {
     match fails_from {
-        Some(least) if least.severity() <= weight.severity() => Status::Found,
+        Some(least) if least.severity() <= level.severity() => Status::Found,
         _ => Status::Fine,
     }
 }

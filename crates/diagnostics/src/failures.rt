@@ -1,8 +1,8 @@
 //! Diagnostics on what cannot be read or used. They are errors without a lint, so no rule changes their level.
 
 use crate::diagnostic::Diagnostic;
+use crate::level_rules::LintLevel;
 use crate::unquoted::Unquoted;
-use crate::weight_rules::Weight;
 use manifest_lints_findings::Children;
 use manifests::places::{Location, Places};
 use manifests::reading::SyntaxError;
@@ -22,7 +22,7 @@ pub fn diagnostic_of_failure(
     }
     Ok(Diagnostic {
         lint: None,
-        weight: Weight::Error,
+        level: LintLevel::Error,
         subject: String::new(alloc),
         key: None,
         message,

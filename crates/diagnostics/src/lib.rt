@@ -8,19 +8,19 @@
 
 mod diagnostic;
 mod failures;
+mod level_laws;
+mod level_rules;
 mod removals;
 mod rendering;
 mod replacements;
 mod source_lines;
 mod unquoted;
-mod weight_laws;
-mod weight_rules;
 
-pub use diagnostic::{Diagnostic, Label, Reported, end_of, own_weight, status_of, weight_word};
+pub use diagnostic::{Diagnostic, Label, Reported, default_level, end_of, level_word, status_of};
 pub use failures::{diagnostic_of_failure, diagnostic_of_key, diagnostic_of_syntax};
+pub use level_laws::{one_level, the_last_decides, unheard_rules_do_nothing};
+pub use level_rules::{LintLevel, Occurrence, Rule, Setting, Subject, level_by, level_by_each};
 pub use removals::removals_of;
 pub use rendering::{coloured, push_rendered};
 pub use replacements::{Replacement, replacement_of};
 pub use source_lines::Window;
-pub use weight_laws::{one_weight, the_last_decides, unheard_rules_do_nothing};
-pub use weight_rules::{Rule, Setting, Subject, Weighed, Weight, weight_by, weight_by_each};

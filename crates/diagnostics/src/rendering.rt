@@ -1,8 +1,8 @@
 //! Diagnostics as rustc prints them for people: the message, the place, and the line of the manifest with marks below.
 
-use crate::diagnostic::{Diagnostic, Reported, weight_word};
+use crate::diagnostic::{Diagnostic, Reported, level_word};
+use crate::level_rules::LintLevel;
 use crate::source_lines::{CUT, Window};
-use crate::weight_rules::Weight;
 use manifest_lints_findings::Children;
 use manifests::places::Location;
 use std::alloc::{AllocError, Global};
@@ -26,15 +26,15 @@ struct Rows {
 }
 
 /// Returns the name of a level, in colour if `colours`.
-pub fn coloured(alloc: Global, weight: Weight, colours: bool) -> Result<String, AllocError> {
-    let word = weight_word(weight);
+pub fn coloured(alloc: Global, level: LintLevel, colours: bool) -> Result<String, AllocError> {
+    let word = level_word(level);
     if !colours {
         return String::from_str(alloc, word);
     }
-    let colour = match weight {
-        Weight::Error => "31",
-        Weight::Warning => "33",
-        Weight::Note | Weight::Allowed => "36",
+    let colour = match level {
+        LintLevel::Error => "31",
+        LintLevel::Warning => "33",
+        LintLevel::Note | LintLevel::Allowed => "36",
     };
     format!(in alloc; "\x1b[{colour}m{word}\x1b[0m")
 }
@@ -301,7 +301,7 @@ fn push_children(
 
 /// Returns the first line of a diagnostic: the level, the lint if there is one, and the message.
 fn head_of(alloc: Global, reported: &Reported<'_>, colours: bool) -> Result<String, AllocError> {
-    let level = coloured(alloc, reported.weight, colours)?;
+    let level = coloured(alloc, reported.level, colours)?;
     let message = reported.diagnostic.message.as_str();
     match reported.diagnostic.code() {
         Some(lint) => format!(in alloc; "{level}[{lint}]: {message}\n"),

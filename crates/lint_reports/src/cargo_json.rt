@@ -3,7 +3,7 @@
 //! [rustc's](https://doc.rust-lang.org/rustc/json.html).
 
 use diagnostics::{
-    Diagnostic, Replacement, Reported, Window, end_of, push_rendered, replacement_of, weight_word,
+    Diagnostic, Replacement, Reported, Window, end_of, level_word, push_rendered, replacement_of,
 };
 use key_answers::json_lines;
 use manifest_lints_findings::Children;
@@ -242,7 +242,7 @@ fn message_of(alloc: Global, reported: &Reported<'_>) -> Result<RustcMessage, Al
         message_type: "diagnostic",
         message: diagnostic.message.clone()?,
         code: code_of(diagnostic),
-        level: weight_word(reported.weight),
+        level: level_word(reported.level),
         spans: spans_of(alloc, reported)?,
         children: children_of(alloc, reported)?,
         rendered,

@@ -1,7 +1,7 @@
 //! The explanations of the lints, for people.
 
 use cargo_platform::shown_start;
-use diagnostics::{Weight, own_weight};
+use diagnostics::{LintLevel, default_level};
 use manifest_lints_findings::{CODES, Code, LINTS_BESIDE, Lint, near};
 use std::alloc::{AllocError, Global};
 
@@ -10,7 +10,7 @@ use std::alloc::{AllocError, Global};
 pub struct Explained {
     pub lint: Lint,
     /// The level of the lint if no rule applies.
-    pub weight: Weight,
+    pub level: LintLevel,
     /// A summary of one line.
     pub short: &'static str,
     /// A paragraph, and an example.
@@ -43,16 +43,17 @@ const NO_TABLE: Said = Said {
 
 const READ_OTHERWISE: Said = Said {
     short: "a key that current Cargo reads differently from how it is spelled",
-    text: "Current Cargo drops the raw mark of `r#true` and `r#false`, and takes `true` and `false` for names in a \
-           pair. Newer rules take `true` and `false` for literals, so the key will mean something else or be \
-           rejected.\n\n\
+    text: "Current Cargo drops the `r#` of `r#true` and `r#false`, and takes `true` and `false` for the key of a \
+           pair. By the newer rules, `true` and `false` are literals. The key will then mean something else, or Cargo \
+           will reject it.\n\n\
            Example: [target.'cfg(true = \"x\")'.dependencies]\nUse another name.",
 };
 
 const UNSUPPORTED: Said = Said {
-    short: "a name or pair that never selects a dependency, and that Cargo warns about",
-    text: "Cargo knows features, profiles and tests, but they are not set when Cargo selects dependencies. The \
-           dependency is never selected, or always if the name or pair is below `not`.\n\n\
+    short: "a name or pair that never selects a dependency, as Cargo warns",
+    text: "Cargo knows the name or pair, but never sets it when it selects dependencies: features, profiles and tests \
+           are chosen later. The dependency is never selected, or always selected if the name or pair is in a \
+           `not(..)`.\n\n\
            Example: [target.'cfg(feature = \"std\")'.dependencies]\nMake the dependency optional, and enable it by \
            the feature.",
 };
@@ -60,21 +61,21 @@ const UNSUPPORTED: Said = Said {
 const NEVER: Said = Said {
     short: "a condition that no set of facts makes true",
     text: "The condition contradicts itself, so the dependencies are never selected. This is a note if the condition \
-           contains no name, as `cfg(false)`, since that may be intended.\n\n\
+           contains no name and no pair, such as `cfg(false)`, since that may be intended.\n\n\
            Example: [target.'cfg(all(unix, not(unix)))'.dependencies]",
 };
 
 const UNKNOWN_TARGET: Said = Said {
     short: "the name of a target that rustc does not know",
     text: "The key is the name of a target that rustc does not know. A custom target specification may have this \
-           name. If there is none, Cargo selects the dependencies on no target, without a warning.\n\n\
+           name. If no target has it, Cargo never selects the dependencies, and does not warn.\n\n\
            Example: [target.x86_64-apple-macos.dependencies]\nWrite `x86_64-apple-darwin`.",
 };
 
 const UNKNOWN_FACT: Said = Said {
     short: "a name or pair that looks like one of rustc's, and that no known target sets",
-    text: "The condition contains a name or pair that looks like one of rustc's, and no known target sets it. It is \
-           false on all of them, and Cargo does not warn.\n\n\
+    text: "The condition contains a name or pair that looks like one of rustc's, but no known target has it. The name \
+           or pair is false on all known targets, and Cargo does not warn.\n\n\
            Example: [target.'cfg(target_os = \"darwin\")'.dependencies]\nWrite `target_os = \"macos\"`.",
 };
 
@@ -114,18 +115,17 @@ const EVERYWHERE: Said = Said {
 
 const CUSTOM: Said = Said {
     short: "a name or pair that only `--cfg` or an unstable feature sets, and that is not declared",
-    text: "The condition contains a name or pair that no known target sets. For dependencies, only `--cfg` in \
-           RUSTFLAGS sets it, since the output of a build script comes too late; or rustc prints it only with \
-           unstable features, as `overflow_checks`. A name in `lints.rust.unexpected_cfgs.check-cfg` of the manifest \
-           is declared and not reported.\n\n\
+    text: "The condition contains a name or pair that no known target sets. When Cargo selects dependencies, only \
+           `--cfg` in RUSTFLAGS can set it. The output of a build script comes too late. rustc sets some names, such \
+           as `overflow_checks`, only with an unstable feature. A name in `lints.rust.unexpected_cfgs.check-cfg` of \
+           the manifest is declared, and not reported.\n\n\
            Example: [target.'cfg(loom)'.dependencies]",
 };
 
 const NOT_CANONICAL: Said = Said {
     short: "a condition that is not in canonical form; allowed by default",
-    text: "The condition is not spelled in the canonical form, in which all tools print it. This is reported only \
-           with `--warn not-canonical` or a rule in the metadata, and never beside a diagnostic that changes the \
-           key.\n\n\
+    text: "The key is not in the canonical form that all commands print. This is reported only with `--warn \
+           not-canonical` or a rule in the metadata, and never together with a diagnostic that changes the key.\n\n\
            Example: [target.'cfg( unix )'.dependencies]\nWrite `cfg(unix)`.",
 };
 
@@ -154,27 +154,28 @@ const UNDERSCORED: Said = Said {
 
 const UNREAD_FIELD: Said = Said {
     short: "a field in Cargo's configuration that Cargo does not read, similar to one that it reads",
-    text: "In `.cargo/config.toml`, Cargo reads `linker`, `runner` and `rustflags` below each key of `target`, \
-           and `rustdocflags` and tables for `links` only below the name of a target. Cargo warns about another \
-           field, or rejects the file when it builds for that target. A field is reported if it is one edit away \
-           from a field that Cargo reads there, or a table of dependencies.\n\n\
+    text: "In `.cargo/config.toml`, Cargo reads `linker`, `runner` and `rustflags` below each key of `target`, and \
+           `rustdocflags` and tables for `links` only below the name of a target. Cargo warns about any other field, \
+           or rejects the file when it builds for that target. A field is reported if its name is one edit away from \
+           one that Cargo reads there, or if it is a table of dependencies.\n\n\
            Example: [target.'cfg(unix)']\n         linkr = \"clang\"\nWrite `linker`.",
 };
 
 const SETTINGS: Said = Said {
     short: "an invalid setting of `manifest-check` in the metadata",
-    text: "The table `manifest-check` in `package.metadata` or `workspace.metadata` contains an unknown setting, \
-           an unknown lint, something else in place of a list, or a fact or target that has no effect. The rest of \
-           the table is used. A table `manifest_check` is not used at all.\n\n\
+    text: "The table `manifest-check` in `package.metadata` or `workspace.metadata` contains an unknown setting, an \
+           unknown lint, another value in place of a list, an entry of `known-facts` that is not a fact, or an entry \
+           of `known-targets` that is not the name of a target. The rest of the table is used. A table \
+           `manifest_check` is not used at all.\n\n\
            Example: [package.metadata.manifest-check]\n         allow = [\"nowere\"]\nWrite `nowhere`.",
 };
 
 const UNNEEDED_ALLOW: Said = Said {
-    short: "an `allow` in the metadata that no diagnostic needs",
+    short: "an `allow` in the metadata for a lint that would not be reported",
     text: "A rule in the metadata allows a lint, and nothing would be reported without the rule: the manifest was \
            corrected, or a newer rustc knows the name. Delete the rule, since it would hide the next mistake.\n\n\
-           Example: [package.metadata.manifest-check]\n         allow = [\"custom\"]\nNo condition contains a \
-           name or value of the project's own.",
+           Example: [package.metadata.manifest-check]\n         allow = [\"custom\"]\nThe entry is unneeded if no \
+           condition contains a name or value of the project's own.",
 };
 
 /// Returns the explanation of a lint on keys.
@@ -215,7 +216,7 @@ pub fn explanation_of(lint: Lint) -> Explained {
     let Said { short, text } = said_beside(lint);
     Explained {
         lint,
-        weight: own_weight(lint, lint.level()),
+        level: default_level(lint, lint.level()),
         short,
         text,
     }

@@ -3,7 +3,7 @@
 use crate::cargo_json::push_cargo_message;
 use crate::escapes::escaped;
 use crate::sarif::{push_notification, push_result, sarif_begin, sarif_end};
-use diagnostics::{Diagnostic, Reported, Weight, coloured, end_of, push_rendered, weight_word};
+use diagnostics::{Diagnostic, LintLevel, Reported, coloured, end_of, level_word, push_rendered};
 use key_answers::json_lines;
 use manifests::places::Location;
 use serde::Serialize;
@@ -92,7 +92,7 @@ fn push_short(
     colours: bool,
 ) -> Result<(), AllocError> {
     let place = short_place(alloc, reported)?;
-    let level = coloured(alloc, reported.weight, colours)?;
+    let level = coloured(alloc, reported.level, colours)?;
     let message = short_message(alloc, reported.diagnostic)?;
     let line = match reported.diagnostic.code() {
         Some(lint) => format!(in alloc; "{place}{level}: {message} [{lint}]\n")?,
@@ -160,7 +160,7 @@ fn push_json(text: &mut String, alloc: Global, reported: &Reported<'_>) -> Resul
         column: at.map(|at| at.column),
         help: all_borrowed(alloc, &diagnostic.children.helps)?,
         key: diagnostic.key(),
-        level: weight_word(reported.weight),
+        level: level_word(reported.level),
         line: at.map(|at| at.line),
         manifest: reported.file(),
         message: diagnostic.message.as_str(),
@@ -175,11 +175,11 @@ fn push_json(text: &mut String, alloc: Global, reported: &Reported<'_>) -> Resul
 }
 
 /// Returns the workflow command for a level.
-fn command_word(weight: Weight) -> &'static str {
-    match weight {
-        Weight::Error => "error",
-        Weight::Warning => "warning",
-        Weight::Note | Weight::Allowed => "notice",
+fn command_word(level: LintLevel) -> &'static str {
+    match level {
+        LintLevel::Error => "error",
+        LintLevel::Warning => "warning",
+        LintLevel::Note | LintLevel::Allowed => "notice",
     }
 }
 
@@ -218,7 +218,7 @@ fn push_command(
     alloc: Global,
     reported: &Reported<'_>,
 ) -> Result<(), AllocError> {
-    let word = command_word(reported.weight);
+    let word = command_word(reported.level);
     let place = command_place(alloc, reported)?;
     let body = command_body(alloc, reported.diagnostic)?;
     let command = match reported.diagnostic.code() {

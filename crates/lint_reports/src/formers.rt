@@ -115,15 +115,15 @@ fn former_of_target(
     bounds: Bounds,
     project: &Project<'_>,
 ) -> Result<Option<WrongPlace>, AllocError> {
-    let Some(mut told) = former(alloc, name, name, bounds, project)? else {
+    let Some(mut wrong) = former(alloc, name, name, bounds, project)? else {
         return Ok(None);
     };
     if let Some(now) = name_now(name) {
         let help = format!(in alloc; "write `{now}`, the name of the target now")?;
-        told.children.helps.push(help)?;
-        told.suggestion = Some(now);
+        wrong.children.helps.push(help)?;
+        wrong.suggestion = Some(now);
     }
-    Ok(Some(told))
+    Ok(Some(wrong))
 }
 
 /// A fact that targets had until some release, and the releases between which it was removed.
@@ -162,7 +162,7 @@ impl<'a> FormerFact<'a> {
     }
 
     /// Returns the diagnostic on the fact in a key.
-    fn told(
+    fn diagnostic(
         &self,
         alloc: Global,
         key: &str,
@@ -171,11 +171,11 @@ impl<'a> FormerFact<'a> {
         let name = self.key;
         let value = self.value;
         let fact = format!(in alloc; "{name} = \"{value}\"")?;
-        let Some(mut told) = former(alloc, key, fact.as_str(), self.bounds, project)? else {
+        let Some(mut wrong) = former(alloc, key, fact.as_str(), self.bounds, project)? else {
             return Ok(None);
         };
-        told.site = Site::InKey(self.span);
-        Ok(Some(told))
+        wrong.site = Site::InKey(self.span);
+        Ok(Some(wrong))
     }
 
     /// Returns the fact as `rustc --print cfg` printed it.
@@ -190,7 +190,7 @@ impl<'a> FormerFact<'a> {
 #[derive(Drop)]
 pub struct Formers {
     /// The diagnostics on these names.
-    pub told: Vec<WrongPlace>,
+    pub found: Vec<WrongPlace>,
     /// The facts among them, as `rustc --print cfg` printed them.
     pub facts: Vec<String>,
     /// The keys among them that are names of targets.
@@ -235,25 +235,8 @@ impl Formers {
         if !has(&self.facts, printed.as_str()) {
             self.facts.push(printed)?;
         }
-        if let Some(told) = fact.told(alloc, key, project)? {
-            self.told.push(told)?;
-        }
-        Ok(())
-    }
-
-    /// Adds the facts of a condition.
-    fn add_facts(
-        &mut self,
-        alloc: Global,
-        key: &str,
-        condition: &Platform,
-        declared: &Declared<'_>,
-        project: &Project<'_>,
-    ) -> Result<(), AllocError> {
-        let values = values_of(alloc, condition)?;
-        let spans = spans_of(alloc, key)?;
-        for fact in &formers_among(alloc, &values, &spans, declared)? {
-            self.add_fact(alloc, key, fact, project)?;
+        if let Some(wrong) = fact.diagnostic(alloc, key, project)? {
+            self.found.push(wrong)?;
         }
         Ok(())
     }
@@ -270,8 +253,8 @@ impl Formers {
             return Ok(());
         }
         self.targets.push(String::from_str(alloc, name)?)?;
-        if let Some(told) = former_of_target(alloc, name, bounds, project)? {
-            self.told.push(told)?;
+        if let Some(wrong) = former_of_target(alloc, name, bounds, project)? {
+            self.found.push(wrong)?;
         }
         Ok(())
     }
@@ -287,11 +270,17 @@ impl Formers {
         if let Some(bounds) = former_target(key) {
             return self.add_target(alloc, key, bounds, project);
         }
-        match Platform::from_str(alloc, key) {
-            Ok(condition) => self.add_facts(alloc, key, &condition, declared, project),
-            Err(ReadError::Parse(_)) => Ok(()),
-            Err(ReadError::Memory(refused)) => Err(refused),
+        let condition = match Platform::from_str(alloc, key) {
+            Ok(condition) => condition,
+            Err(ReadError::Parse(_)) => return Ok(()),
+            Err(ReadError::Memory(refused)) => return Err(refused),
+        };
+        let values = values_of(alloc, &condition)?;
+        let spans = spans_of(alloc, key)?;
+        for fact in &formers_among(alloc, &values, &spans, declared)? {
+            self.add_fact(alloc, key, fact, project)?;
         }
+        Ok(())
     }
 
     /// Returns the names in the keys of a manifest that rustc knew until some release, except facts that the manifest
@@ -302,7 +291,7 @@ impl Formers {
         project: &Project<'_>,
     ) -> Result<Formers, AllocError> {
         let mut formers = Formers {
-            told: Vec::new(alloc),
+            found: Vec::new(alloc),
             facts: Vec::new(alloc),
             targets: Vec::new(alloc),
         };

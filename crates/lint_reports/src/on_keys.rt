@@ -1,6 +1,6 @@
 //! The diagnostics for findings on keys, and for what is in a wrong place.
 
-use diagnostics::{Diagnostic, Label, own_weight};
+use diagnostics::{Diagnostic, Label, default_level};
 use manifest_lints_findings::{Children, Finding, Lint, Report, Site, WrongPlace};
 use manifests::places::{Location, Places};
 use std::alloc::{AllocError, Global};
@@ -208,7 +208,7 @@ pub fn diagnostic_of(
     let also_at = key_again(alloc, places, &key, finding.suggestion.is_some())?;
     Ok(Diagnostic {
         lint: Some(lint),
-        weight: own_weight(lint, finding.level),
+        level: default_level(lint, finding.level),
         subject: String::from_str(alloc, "target")?,
         key,
         message: finding.message.clone()?,
@@ -301,7 +301,7 @@ pub fn diagnostic_of_wrong(
     let (key_at, also_at) = replaced_by(alloc, places, wrong)?;
     Ok(Diagnostic {
         lint: Some(wrong.lint),
-        weight: own_weight(wrong.lint, wrong.level),
+        level: default_level(wrong.lint, wrong.level),
         subject: wrong.subject.clone()?,
         key: copied(&wrong.key)?,
         message: wrong.message.clone()?,

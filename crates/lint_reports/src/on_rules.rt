@@ -3,7 +3,7 @@
 use crate::codes::{UnknownLint, unknown_subject};
 use crate::settings::{Fault, FaultAt, TOOL, UNDERSCORED_TOOL, WORDS};
 use cargo_platform::{inside_cfg, shown_start};
-use diagnostics::{Diagnostic, Rule, own_weight};
+use diagnostics::{Diagnostic, Rule, default_level};
 use manifest_lints_findings::{Children, Lint, near};
 use manifests::places::{Location, Places, path_of};
 use std::alloc::{AllocError, Global};
@@ -49,7 +49,7 @@ impl Wrong {
 /// Returns what is wrong with an entry of `known-facts` that is no fact.
 fn no_fact(alloc: Global, text: &str) -> Result<Wrong, AllocError> {
     let shown = shown_start(alloc, text)?;
-    let message = format!(in alloc; "`{shown}` is no fact")?;
+    let message = format!(in alloc; "`{shown}` is not a fact")?;
     match inside_cfg(text) {
         Some(inside) => {
             let inside = shown_start(alloc, inside)?;
@@ -92,12 +92,12 @@ fn no_entry_message(alloc: Global, word: &str) -> Result<String, AllocError> {
 /// Returns what is wrong in a table of rules.
 fn wrong_of(alloc: Global, fault: &Fault) -> Result<Wrong, AllocError> {
     let message = match fault {
-        Fault::NoTable => format!(in alloc; "`{TOOL}` is no table")?,
-        Fault::NoList(word) => format!(in alloc; "`{word}` is no list")?,
+        Fault::NoTable => format!(in alloc; "`{TOOL}` is not a table")?,
+        Fault::NoList(word) => format!(in alloc; "`{word}` is not a list")?,
         Fault::NoEntry(word) => no_entry_message(alloc, word)?,
-        Fault::NoText(word) => format!(in alloc; "an entry of `{word}` is no text")?,
+        Fault::NoText(word) => format!(in alloc; "an entry of `{word}` is not a string")?,
         Fault::NoRelease(word) => {
-            let message = format!(in alloc; "`{word}` is no release")?;
+            let message = format!(in alloc; "`{word}` is not a release")?;
             let note = "releases are written as `1.84` and `1.84.1`";
             return Wrong::noted(alloc, message, note);
         }
@@ -106,7 +106,7 @@ fn wrong_of(alloc: Global, fault: &Fault) -> Result<Wrong, AllocError> {
         Fault::NoFact(text) => return no_fact(alloc, text.as_str()),
         Fault::NoTarget(text) => {
             let text = shown_start(alloc, text.as_str())?;
-            format!(in alloc; "`{text}` is no name of a target")?
+            format!(in alloc; "`{text}` is not the name of a target")?
         }
         Fault::Underscored => {
             let message = format!(in alloc; "nothing is set by the table `{UNDERSCORED_TOOL}`")?;
@@ -184,7 +184,7 @@ fn on_rules(
     }
     Ok(Diagnostic {
         lint: Some(lint),
-        weight: own_weight(lint, lint.level()),
+        level: default_level(lint, lint.level()),
         subject: format!(in alloc; "{part}.{METADATA}.{TOOL}")?,
         key: None,
         message,

@@ -2,7 +2,7 @@
 
 use crate::codes::{Explained, all_explained};
 use crate::escapes::uri_of;
-use diagnostics::{Replacement, Reported, Weight, end_of, replacement_of, weight_word};
+use diagnostics::{LintLevel, Replacement, Reported, end_of, level_word, replacement_of};
 use key_answers::json_lines;
 use manifests::places::Location as Place;
 use serde::Serialize;
@@ -179,7 +179,7 @@ struct Region {
 fn rule_of(explained: &Explained) -> Rule<'static> {
     Rule {
         default_configuration: Configuration {
-            level: level_word(explained.weight),
+            level: sarif_level(explained.level),
         },
         full_description: Message {
             text: explained.text,
@@ -239,10 +239,10 @@ pub fn sarif_end(alloc: Global, notifications: &str) -> Result<String, AllocErro
 }
 
 /// Returns the name of a result's level.
-fn level_word(weight: Weight) -> &'static str {
-    match weight {
-        Weight::Allowed => "none",
-        weight => weight_word(weight),
+fn sarif_level(level: LintLevel) -> &'static str {
+    match level {
+        LintLevel::Allowed => "none",
+        level => level_word(level),
     }
 }
 
@@ -336,7 +336,7 @@ pub fn push_result(
     is_first: bool,
 ) -> Result<(), AllocError> {
     let result = SarifResult {
-        level: level_word(reported.weight),
+        level: sarif_level(reported.level),
         locations: locations_of(alloc, reported)?,
         message: message_of(alloc, reported)?,
         rule_id: reported.diagnostic.code().unwrap_or(""),
@@ -353,7 +353,7 @@ pub fn push_notification(
     reported: &Reported<'_>,
 ) -> Result<(), AllocError> {
     let notification = Notification {
-        level: level_word(reported.weight),
+        level: sarif_level(reported.level),
         locations: locations_of(alloc, reported)?,
         message: message_of(alloc, reported)?,
     };

@@ -164,8 +164,7 @@ impl Settings {
         &mut self,
         alloc: Global,
         setting: Setting,
-        index: usize,
-        entry: &Value,
+        (index, entry): (usize, &Value),
         of_keys: bool,
     ) -> Result<(), AllocError> {
         let Some((word, key)) = named_by(entry) else {
@@ -200,8 +199,8 @@ impl Settings {
         for setting in SETTINGS {
             match table.get(setting.word()) {
                 Some(Value::Array(entries)) => {
-                    for (index, entry) in entries.iter().enumerate() {
-                        self.add_entry(alloc, setting, index, entry, of_keys)?;
+                    for entry in entries.iter().enumerate() {
+                        self.add_entry(alloc, setting, entry, of_keys)?;
                     }
                 }
                 Some(_) => {

@@ -2,13 +2,13 @@
 
 ghost use Rattle.std.specs.Prelude.{◌≡◌, ◌↔◌, ◌++◌, IsTrue, option_map};
 ghost use Rattle.manifest_lints_findings.specs.Codes.{lint_word};
-ghost use Rattle.diagnostics.specs.Weights.{weight_set, severity, IsAbout, IsMeant, Hears, Makes, IsNeeded};
+ghost use Rattle.diagnostics.specs.LintLevels.{level_set, severity, IsAbout, IsMeant, Hears, Makes, IsNeeded};
 
 use manifest_lints_findings::Lint;
 
 /// The level of a diagnostic.
 #[derive(Clone, Copy, Debug, PartialEq, Eq, Drop)]
-pub enum Weight {
+pub enum LintLevel {
     /// The diagnostic is not reported.
     Allowed,
     /// Something that may be intended.
@@ -19,16 +19,16 @@ pub enum Weight {
     Error,
 }
 
-impl Weight {
-    /// Returns how severe the weight is, from 0 for what is not reported to 3 for an error.
+impl LintLevel {
+    /// Returns how severe the level is, from 0 for what is not reported to 3 for an error.
     pub fn severity(self) -> u8
         ensures { result ≡ severity self }
     {
         match self {
-            Weight::Allowed => 0,
-            Weight::Note => 1,
-            Weight::Warning => 2,
-            Weight::Error => 3,
+            LintLevel::Allowed => 0,
+            LintLevel::Note => 1,
+            LintLevel::Warning => 2,
+            LintLevel::Error => 3,
         }
     }
 }
@@ -46,13 +46,13 @@ pub enum Setting {
 
 impl Setting {
     /// Returns the level of a diagnostic to which a rule with this setting applies.
-    pub fn weight(self) -> Weight
-        ensures { result ≡ weight_set self }
+    pub fn level(self) -> LintLevel
+        ensures { result ≡ level_set self }
     {
         match self {
-            Setting::Allow => Weight::Allowed,
-            Setting::Warn => Weight::Warning,
-            Setting::Deny => Weight::Error,
+            Setting::Allow => LintLevel::Allowed,
+            Setting::Warn => LintLevel::Warning,
+            Setting::Deny => LintLevel::Error,
         }
     }
 
@@ -110,23 +110,23 @@ pub struct Rule {
 
 /// A diagnostic, as rules see it.
 #[derive(Clone, Copy, Drop)]
-pub struct Weighed<'a> {
+pub struct Occurrence<'a> {
     pub lint: Lint,
     /// The key that it is about, if there is one.
     pub key: Option<&'a str>,
     /// The level of its lint.
-    pub weight: Weight,
+    pub level: LintLevel,
 }
 
 impl Rule {
-    /// Returns whether the rule's subject includes a diagnostic that has the level `weight` after the rules before.
-    fn is_about(&self, found: &Weighed<'_>, weight: Weight) -> bool
-        ensures { IsTrue result ↔ IsAbout self.now.subject (lint_word found.now.lint) weight }
+    /// Returns whether the rule's subject includes a diagnostic that has the level `level` after the rules before.
+    fn is_about(&self, found: &Occurrence<'_>, level: LintLevel) -> bool
+        ensures { IsTrue result ↔ IsAbout self.now.subject (lint_word found.now.lint) level }
     {
         match &self.subject {
             Subject::Lint(lint) => lint.word() == found.lint.word(),
-            Subject::Warnings => weight == Weight::Warning,
-            Subject::Notes => weight == Weight::Note,
+            Subject::Warnings => level == LintLevel::Warning,
+            Subject::Notes => level == LintLevel::Note,
         }
     }
 }
@@ -143,37 +143,37 @@ fn is_meant(meant: &Option<String>, key: Option<&str>) -> bool
 }
 
 impl Rule {
-    /// Returns whether the rule applies to a diagnostic that has the level `weight` after the rules before.
-    pub fn is_heard(&self, found: &Weighed<'_>, weight: Weight) -> bool
+    /// Returns whether the rule applies to a diagnostic that has the level `level` after the rules before.
+    pub fn is_heard(&self, found: &Occurrence<'_>, level: LintLevel) -> bool
         ensures { IsTrue result
-            ↔ Hears self.now (lint_word found.now.lint) (option_map (λ k. k.now) found.now.key) weight }
+            ↔ Hears self.now (lint_word found.now.lint) (option_map (λ k. k.now) found.now.key) level }
     {
-        self.is_about(found, weight) && is_meant(&self.key, found.key)
+        self.is_about(found, level) && is_meant(&self.key, found.key)
     }
 }
 
 /// Returns the level of a diagnostic after the rules. They apply in their order: each sets the level if it applies to
 /// the diagnostic at the level that it has by then.
-pub fn weight_by(rules: &[Rule], found: &Weighed<'_>) -> Weight
-    ensures { Makes (lint_word found.now.lint) (option_map (λ k. k.now) found.now.key) found.now.weight
+pub fn level_by(rules: &[Rule], found: &Occurrence<'_>) -> LintLevel
+    ensures { Makes (lint_word found.now.lint) (option_map (λ k. k.now) found.now.key) found.now.level
         rules.now result }
 {
-    let mut weight = found.weight;
+    let mut level = found.level;
     'rules: for rule in rules {
-        if rule.is_heard(found, weight) {
-            weight = rule.setting.weight();
+        if rule.is_heard(found, level) {
+            level = rule.setting.level();
         }
     }
-    weight
+    level
 }
 
 impl Rule {
     /// Returns whether the rule applies to one of the diagnostics that would be reported without any rule.
-    pub fn is_needed(&self, found: &[Weighed<'_>]) -> bool
+    pub fn is_needed(&self, found: &[Occurrence<'_>]) -> bool
         ensures { IsTrue result ↔ IsNeeded self.now found.now }
     {
         for it in found {
-            if it.weight != Weight::Allowed && self.is_heard(it, it.weight) {
+            if it.level != LintLevel::Allowed && self.is_heard(it, it.level) {
                 return true;
             }
         }
@@ -183,22 +183,22 @@ impl Rule {
 
 /// Returns the level of a diagnostic after the rules of a workspace, then those of its package, and then those of a
 /// command line, which take precedence.
-pub fn weight_by_each(
+pub fn level_by_each(
     of_workspace: &[Rule],
     of_package: &[Rule],
     of_command: &[Rule],
-    found: &Weighed<'_>,
-) -> Weight
-    ensures { Makes (lint_word found.now.lint) (option_map (λ k. k.now) found.now.key) found.now.weight
+    found: &Occurrence<'_>,
+) -> LintLevel
+    ensures { Makes (lint_word found.now.lint) (option_map (λ k. k.now) found.now.key) found.now.level
         (of_workspace.now ++ (of_package.now ++ of_command.now)) result }
 {
-    let by_workspace = Weighed {
-        weight: weight_by(of_workspace, found),
+    let by_workspace = Occurrence {
+        level: level_by(of_workspace, found),
         ..*found
     };
-    let by_package = Weighed {
-        weight: weight_by(of_package, &by_workspace),
+    let by_package = Occurrence {
+        level: level_by(of_package, &by_workspace),
         ..*found
     };
-    weight_by(of_command, &by_package)
+    level_by(of_command, &by_package)
 }

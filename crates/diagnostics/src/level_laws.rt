@@ -1,9 +1,9 @@
 //! Laws about the definitions. The functions do nothing: the contract of each is a law.
 
-ghost use Rattle.diagnostics.specs.WeightLaws.{MakesOne, IsKept, LastDecides};
+ghost use Rattle.diagnostics.specs.LevelLaws.{MakesOne, IsKept, LastDecides};
 
 /// States that rules turn a level into exactly one level.
-pub fn one_weight()
+pub fn one_level()
     ensures { MakesOne }
 {}
 
