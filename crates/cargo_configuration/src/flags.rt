@@ -171,6 +171,7 @@ fn add_table(
         return Ok(());
     }
     let place = match key {
+        Some(key) if is_path(key) => format!(in alloc; "target.{key}.{RUSTFLAGS}")?,
         Some(key) => format!(in alloc; "target.'{key}'.{RUSTFLAGS}")?,
         None => format!(in alloc; "build.{RUSTFLAGS}")?,
     };
@@ -184,7 +185,30 @@ fn add_table(
     Ok(())
 }
 
-/// Adds the flags of a configuration.
+/// Returns whether a key of `target` is the name of a target with a point, such as `thumbv8m.main-none-eabi`.
+fn is_path(key: &str) -> bool {
+    key.contains('.') && !key.starts_with("cfg(")
+}
+
+/// Adds the flags of the tables that `[target.FIRST.REST]` begins, where `fields` is the table of `FIRST`: those for
+/// the target with the name `FIRST.REST`.
+fn add_paths(
+    alloc: Global,
+    first: &str,
+    fields: &Table,
+    found: &mut Vec<Flags>,
+) -> Result<(), AllocError> {
+    for (rest, value) in fields.iter() {
+        if let Some(inner) = value.as_table() {
+            let name = format!(in alloc; "{first}.{rest}")?;
+            add_table(alloc, inner, Some(name.as_str()), found)?;
+        }
+    }
+    Ok(())
+}
+
+/// Adds the flags of a configuration. Cargo looks up the name of a target as a path of keys, so a name with a point has
+/// a table for each of its parts, and a quoted key with a point counts for no target.
 fn add_configuration(
     alloc: Global,
     configuration: &Table,
@@ -195,8 +219,12 @@ fn add_configuration(
     }
     if let Some(targets) = table_in(configuration, "target") {
         for (key, value) in targets.iter() {
-            if let Some(fields) = value.as_table() {
+            let Some(fields) = value.as_table() else {
+                continue;
+            };
+            if !is_path(key.as_str()) {
                 add_table(alloc, fields, Some(key.as_str()), found)?;
+                add_paths(alloc, key.as_str(), fields, found)?;
             }
         }
     }

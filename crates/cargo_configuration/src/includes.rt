@@ -76,7 +76,7 @@ impl UnreadFiles {
             return Ok(());
         };
         let Some(members) = value.as_array() else {
-            return Err(rejected_include(alloc, path, "it is no array")?);
+            return Err(rejected_include(alloc, path, "it is not an array")?);
         };
         for member in members {
             match read_inclusion(member) {

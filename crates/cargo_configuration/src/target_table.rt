@@ -1,6 +1,7 @@
 //! The table `target` of a configuration, whose keys are those of a manifest, by Cargo's reference ("Configuration":
 //! `target`).
 
+use known_targets::KnownTarget;
 use manifest_lints_findings::{Children, Code, Finding};
 use std::alloc::{AllocError, Global};
 use toml::{Table, Value};
@@ -10,12 +11,30 @@ use workspaces::put;
 const UNSUPPORTED: &str =
     "Cargo asks this key by what `rustc --print cfg` prints, which knows no feature, test or profile";
 
-/// Returns the keys of a table, each table among their values empty.
+/// Returns whether a table has only the rest of the names of known targets, as the one of `thumbv8m` does in
+/// `[target.thumbv8m.main-none-eabi]`. Cargo looks up a name as a path of keys.
+fn only_begins_names(alloc: Global, first: &str, fields: &Table) -> Result<bool, AllocError> {
+    for (rest, value) in fields.iter() {
+        let name = format!(in alloc; "{first}.{rest}")?;
+        if value.as_table().is_none() || KnownTarget::by_name(name.as_str()).is_none() {
+            return Ok(false);
+        }
+    }
+    Ok(!fields.is_empty())
+}
+
+/// Returns the keys of a table, each table among their values empty. A key that only begins names of targets is left
+/// out.
 fn without_fields(alloc: Global, targets: &Table) -> Result<Table, AllocError> {
     let mut keys = Table::new(alloc);
     for (key, value) in targets.iter() {
         let value = match value {
-            Value::Table(_) => Value::Table(Table::new(alloc)),
+            Value::Table(fields) => {
+                if only_begins_names(alloc, key.as_str(), fields)? {
+                    continue;
+                }
+                Value::Table(Table::new(alloc))
+            }
             _ => value.clone()?,
         };
         put(alloc, &mut keys, key.as_str(), value)?;

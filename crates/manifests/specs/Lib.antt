@@ -4,7 +4,7 @@ pub mod Declarations
 pub mod Steps
 pub mod Documents
 pub mod Laws
-pub mod Asking
+pub mod TargetFacts
 pub mod Choosing
 pub mod Selecting
 pub mod Located

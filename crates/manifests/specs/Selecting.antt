@@ -11,11 +11,11 @@ use Rattle.cargo_platform.specs.declared.error.ParseError.{ParseError}
 use Rattle.known_targets.specs.declared.known.KnownTarget.{KnownTarget}
 use Rattle.known_targets.specs.Sets.{place}
 use Rattle.known_targets.specs.Table.{target_name, target_facts}
-use Rattle.manifests.specs.Asking.{asked_told}
+use Rattle.manifests.specs.TargetFacts.{facts_told}
 use Rattle.manifests.specs.Choosing.{choice_of, IfOpen, IsChoiceBy}
 use Rattle.manifests.specs.Entries.{Entry}
 use Rattle.manifests.specs.Tables.{DependencyRow, row_of, rows_of, target_of}
-use Rattle.manifests.specs.declared.selection.Asked.{Asked}
+use Rattle.manifests.specs.declared.selection.TargetFacts.{TargetFacts}
 use Rattle.manifests.specs.declared.selection.Choice.{Choice}
 use Rattle.manifests.specs.declared.selection.Choice.TheVariants.{Selected}
 use Rattle.manifests.specs.declared.selection.Row.{Row}
@@ -32,10 +32,10 @@ pub record Question : Type 0 where
   pub told : Pair → Option Bool
   pub host : Option KnownTarget
 
-abbrev pub question_of : List ℕ → Asked → Option KnownTarget → Question
+abbrev pub question_of : List ℕ → TargetFacts → Option KnownTarget → Question
 question_of target known host = record {
   target = target;
-  told = asked_told (fact_set (map value_of known.facts.now)) (fact_set (map value_of known.added.now))
+  told = facts_told (fact_set (map value_of known.facts.now)) (fact_set (map value_of known.added.now))
       (map (λ t. t.now) known.open.now);
   host = host;
 }

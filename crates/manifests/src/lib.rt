@@ -14,7 +14,7 @@ pub mod selection;
 pub mod tables;
 
 pub use declared::Declared;
-pub use selection::{Asked, Choice, Row, SelectError, choose, select};
+pub use selection::{Choice, Row, SelectError, TargetFacts, choose, select};
 pub use tables::{
     Dependency, Kind, TargetKey, Targets, dependencies, keys_of, table_of, target_keys,
 };

@@ -24,7 +24,7 @@ use toml::Table;
 /// The facts of a target, as far as they are known. A fact in `added` is set. Other facts are open if their name or key
 /// is in `open`, and otherwise they are set exactly if they are in `facts`. Raw marks are ignored.
 #[derive(Drop)]
-pub struct Asked<'a> {
+pub struct TargetFacts<'a> {
     /// The facts of the target.
     pub facts: &'a [Cfg],
     /// Additional facts, which take precedence over `open`.
@@ -101,18 +101,19 @@ pub fn choose<K: Knowledge>(
     }
 }
 
-impl<'a> Knowledge for Asked<'a> {
+impl<'a> Knowledge for TargetFacts<'a> {
     ghost use Rattle.std.specs.Prelude.{map};
     ghost use Rattle.cargo_platform.specs.Trees.{value_of};
     ghost use Rattle.cargo_platform.specs.Facts.{fact_set};
-    ghost use Rattle.manifests.specs.Asking.{asked_told, IsAsked, asked_example, asked_possible, asked_sound};
+    ghost use Rattle.manifests.specs.TargetFacts.{HasTargetFacts};
+    ghost use Rattle.manifests.specs.TargetFacts.{facts_told, facts_example, facts_possible, facts_sound};
 
-    ghost allows = { λ k s. IsAsked (fact_set (map value_of k.facts.now)) (fact_set (map value_of k.added.now))
+    ghost allows = { λ k s. HasTargetFacts (fact_set (map value_of k.facts.now)) (fact_set (map value_of k.added.now))
         (map (λ t. t.now) k.open.now) s };
 
-    ghost example = { λ k. asked_example (map value_of k.facts.now) (map value_of k.added.now) };
+    ghost example = { λ k. facts_example (map value_of k.facts.now) (map value_of k.added.now) };
 
-    ghost told = { λ k p. asked_told (fact_set (map value_of k.facts.now)) (fact_set (map value_of k.added.now))
+    ghost told = { λ k p. facts_told (fact_set (map value_of k.facts.now)) (fact_set (map value_of k.added.now))
         (map (λ t. t.now) k.open.now) p };
 
     fn tells(&self, c: &Cfg) -> Option<bool> {
@@ -129,10 +130,10 @@ impl<'a> Knowledge for Asked<'a> {
         Some(Listed(self.facts).holds(c))
     }
 
-    ghost possible = { λ k. asked_possible (map value_of k.facts.now) (map value_of k.added.now)
+    ghost possible = { λ k. facts_possible (map value_of k.facts.now) (map value_of k.added.now)
         (map (λ t. t.now) k.open.now) };
 
-    ghost sound = { λ k s p is. asked_sound (fact_set (map value_of k.facts.now)) (fact_set (map value_of k.added.now))
+    ghost sound = { λ k s p is. facts_sound (fact_set (map value_of k.facts.now)) (fact_set (map value_of k.added.now))
         (map (λ t. t.now) k.open.now) s p is };
 }
 
@@ -157,7 +158,7 @@ fn choose_for(
     platform: &Platform,
     kind: Kind,
     target: &str,
-    known: &Asked<'_>,
+    known: &TargetFacts<'_>,
     host: Option<KnownTarget>,
 ) -> Result<Choice, AllocError>
     ensures { IfOk result (IsChoiceFor (question_of target.now known.now host) kind (condition_of platform.now)) }
@@ -179,7 +180,7 @@ pub fn select<'a>(
     alloc: Global,
     manifest: &'a Table,
     target: &str,
-    known: &Asked<'_>,
+    known: &TargetFacts<'_>,
     host: Option<KnownTarget>,
 ) -> Result<Vec<Row<'a>>, SelectError<'a>>
     ensures rows { IfOk result (λ rows. AreRows (question_of target.now known.now host) (table_view manifest.now)
@@ -218,7 +219,7 @@ fn add_keys<'a>(
     alloc: Global,
     keys: &[TargetKey<'a>],
     target: &str,
-    known: &Asked<'_>,
+    known: &TargetFacts<'_>,
     host: Option<KnownTarget>,
     rows: &mut Vec<Row<'a>>,
 ) -> Result<(), SelectError<'a>>
@@ -237,7 +238,7 @@ fn add_rows<'a>(
     alloc: Global,
     key: TargetKey<'a>,
     target: &str,
-    known: &Asked<'_>,
+    known: &TargetFacts<'_>,
     host: Option<KnownTarget>,
     rows: &mut Vec<Row<'a>>,
 ) -> Result<(), SelectError<'a>>
@@ -264,7 +265,7 @@ fn add_chosen<'a>(
     condition: &Platform,
     dependencies: &[Dependency<'a>],
     target: &str,
-    known: &Asked<'_>,
+    known: &TargetFacts<'_>,
     host: Option<KnownTarget>,
     rows: &mut Vec<Row<'a>>,
 ) -> Result<(), AllocError>

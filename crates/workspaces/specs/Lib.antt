@@ -1,3 +1,4 @@
+pub mod Documents
 pub mod Stretches
 pub mod Rows
 pub mod Globs

@@ -2,7 +2,7 @@
 //! with a version or without; `cargo build --package`: globs) and by the rules of `.gitignore` for folders.
 
 use crate::documents::{Documents, real_path};
-use crate::finding::{Asked, Found, root_of};
+use crate::finding::{Found, ManifestSelection, root_of};
 use crate::inheritance::is_inherited;
 use crate::manifests::{folder_of, package_name, shorter, table_in, text_in};
 use crate::patterns::{Pattern, PatternError, is_glob, names_of};
@@ -212,13 +212,14 @@ fn some_leaves_out(
 /// Returns the paths of the candidates that are chosen, and not left out.
 fn chosen_of(
     alloc: Global,
-    asked: &Asked,
+    selection: &ManifestSelection,
     candidates: &[Candidate],
 ) -> Result<Vec<String>, AllocError> {
     let mut chosen = Vec::new(alloc);
     for candidate in candidates {
-        let is_asked = asked.packages.is_empty() || some_means(alloc, &asked.packages, candidate)?;
-        if is_asked && !some_leaves_out(alloc, &asked.excluded, candidate)? {
+        let is_selected = selection.packages.is_empty()
+            || some_means(alloc, &selection.packages, candidate)?;
+        if is_selected && !some_leaves_out(alloc, &selection.excluded, candidate)? {
             chosen.push(candidate.file.clone()?)?;
         }
     }
@@ -252,11 +253,11 @@ fn leaves_out_some(
 /// Adds an error for each package that is chosen and no candidate is.
 fn add_unknown(
     alloc: Global,
-    asked: &Asked,
+    selection: &ManifestSelection,
     candidates: &[Candidate],
     found: &mut Found,
 ) -> Result<(), AllocError> {
-    for text in &asked.packages {
+    for text in &selection.packages {
         if !means_some(alloc, text.as_str(), candidates)? {
             let text = shown_text(alloc, text.as_str())?;
             let reason = format!(in alloc; "no package of the workspace is named {text}")?;
@@ -269,11 +270,11 @@ fn add_unknown(
 /// Adds a warning for each text that leaves out no candidate.
 fn add_unneeded(
     alloc: Global,
-    asked: &Asked,
+    selection: &ManifestSelection,
     candidates: &[Candidate],
     found: &mut Found,
 ) -> Result<(), AllocError> {
-    for text in &asked.excluded {
+    for text in &selection.excluded {
         if !leaves_out_some(alloc, text.as_str(), candidates)? {
             let text = shown_text(alloc, text.as_str())?;
             let line = format!(in alloc;
@@ -292,14 +293,14 @@ fn add_unneeded(
 pub fn choose<R: Files + Env + AllocGlobal>(
     rt: &R,
     documents: &mut Documents,
-    asked: &Asked,
+    selection: &ManifestSelection,
     found: &mut Found,
 ) -> Result<(), AllocError> {
     let alloc = rt.alloc();
     let candidates = candidates_at(rt, documents, &found.paths)?;
-    let chosen = chosen_of(alloc, asked, &candidates)?;
-    add_unknown(alloc, asked, &candidates, found)?;
-    add_unneeded(alloc, asked, &candidates, found)?;
+    let chosen = chosen_of(alloc, selection, &candidates)?;
+    add_unknown(alloc, selection, &candidates, found)?;
+    add_unneeded(alloc, selection, &candidates, found)?;
     found.paths = chosen;
     Ok(())
 }

@@ -15,7 +15,7 @@ use std::rt::{Env, Files};
 
 /// The arguments of a command line that select manifests.
 #[derive(Drop)]
-pub struct Asked {
+pub struct ManifestSelection {
     /// Manifests by `--manifest-path`.
     pub paths: Vec<String>,
     /// Manifests, and folders that contain one. If neither list has an entry, the manifest in the current folder or in
@@ -166,10 +166,10 @@ pub fn root_of<R: Files + Env + AllocGlobal>(
 fn first_of<R: Files + Env + AllocGlobal>(
     rt: &R,
     documents: &mut Documents,
-    asked: &Asked,
+    selection: &ManifestSelection,
     file: &str,
 ) -> Result<String, AllocError> {
-    if asked.whole || !asked.packages.is_empty() {
+    if selection.whole || !selection.packages.is_empty() {
         root_of(rt, documents, file)
     } else {
         String::from_str(rt.alloc(), file)
@@ -196,7 +196,7 @@ fn add_members<R: Files + AllocGlobal + Clone + Drop>(
 fn add_meant<R: Files + Env + AllocGlobal + Clone + Drop>(
     rt: &R,
     documents: &mut Documents,
-    asked: &Asked,
+    selection: &ManifestSelection,
     file: &str,
     found: &mut Found,
 ) -> Result<(), AllocError> {
@@ -204,9 +204,9 @@ fn add_meant<R: Files + Env + AllocGlobal + Clone + Drop>(
         found.paths.push(String::from_str(rt.alloc(), file)?)?;
         return Ok(());
     }
-    let file = first_of(rt, documents, asked, file)?;
+    let file = first_of(rt, documents, selection, file)?;
     found.paths.push(file.clone()?)?;
-    if asked.alone {
+    if selection.alone {
         return Ok(());
     }
     add_members(rt, documents, file.as_str(), found)
@@ -216,13 +216,13 @@ fn add_meant<R: Files + Env + AllocGlobal + Clone + Drop>(
 fn add_all<R: Files + Env + AllocGlobal + Clone + Drop>(
     rt: &R,
     documents: &mut Documents,
-    asked: &Asked,
+    selection: &ManifestSelection,
     named: &[String],
     found: &mut Found,
 ) -> Result<(), AllocError> {
     for path in named {
         let file = file_of(rt, path.as_str())?;
-        add_meant(rt, documents, asked, file.as_str(), found)?;
+        add_meant(rt, documents, selection, file.as_str(), found)?;
     }
     Ok(())
 }
@@ -232,14 +232,14 @@ fn add_all<R: Files + Env + AllocGlobal + Clone + Drop>(
 fn add_at_hand<R: Files + Env + AllocGlobal + Clone + Drop>(
     rt: &R,
     documents: &mut Documents,
-    asked: &Asked,
+    selection: &ManifestSelection,
     found: &mut Found,
 ) -> Result<(), AllocError> {
     let Some(file) = manifest_above(rt)? else {
         let reason = "no `Cargo.toml` is here or in a folder above";
         return found.push(String::from_str(rt.alloc(), reason)?);
     };
-    add_meant(rt, documents, asked, file.as_str(), found)
+    add_meant(rt, documents, selection, file.as_str(), found)
 }
 
 /// Returns those of the paths that lead to a manifest to which no path before leads.
@@ -290,7 +290,7 @@ fn once_from_here<R: Files + Env + AllocGlobal>(
 pub fn find<R: Files + Env + AllocGlobal + Clone + Drop>(
     rt: &R,
     documents: &mut Documents,
-    asked: &Asked,
+    selection: &ManifestSelection,
 ) -> Result<Found, AllocError> {
     let alloc = rt.alloc();
     let mut found = Found {
@@ -298,14 +298,14 @@ pub fn find<R: Files + Env + AllocGlobal + Clone + Drop>(
         unusable: Vec::new(alloc),
         warnings: String::new(alloc),
     };
-    if asked.paths.is_empty() && asked.manifests.is_empty() {
-        add_at_hand(rt, documents, asked, &mut found)?;
+    if selection.paths.is_empty() && selection.manifests.is_empty() {
+        add_at_hand(rt, documents, selection, &mut found)?;
     }
-    add_all(rt, documents, asked, &asked.paths, &mut found)?;
-    add_all(rt, documents, asked, &asked.manifests, &mut found)?;
+    add_all(rt, documents, selection, &selection.paths, &mut found)?;
+    add_all(rt, documents, selection, &selection.manifests, &mut found)?;
     found.paths = once_from_here(rt, &found.paths)?;
-    if !asked.packages.is_empty() || !asked.excluded.is_empty() {
-        choose(rt, documents, asked, &mut found)?;
+    if !selection.packages.is_empty() || !selection.excluded.is_empty() {
+        choose(rt, documents, selection, &mut found)?;
     }
     documents.expect_uses(rt, &found.paths)?;
     Ok(found)

@@ -1,6 +1,7 @@
 //! The folders below a root that a glob may match.
 
 use crate::components::{Component, Name};
+use crate::documents::real_path;
 use crate::manifests::{inside, is_folder, unless_refused};
 use crate::patterns::{Pattern, is_glob, plain_components};
 use crate::pieces::Piece;
@@ -74,8 +75,40 @@ fn is_folder_below<R: Files + AllocGlobal>(
     is_folder(rt, place.as_str())
 }
 
-/// Adds the folder with a name in the one at a path, if it is there and no link.
-fn add_own<R: Files + AllocGlobal>(
+/// Returns the real path of a folder below the root.
+fn real_folder<R: Files + AllocGlobal>(
+    rt: &R,
+    root: &str,
+    path: &str,
+) -> Result<String, AllocError> {
+    let place = inside(rt.alloc(), root, path)?;
+    let place = if place.as_str().is_empty() {
+        "."
+    } else {
+        place.as_str()
+    };
+    real_path(rt, place)
+}
+
+/// Returns whether the folder at the path `lower` is the one at `path`, or one that this one is in.
+fn leads_back<R: Files + AllocGlobal>(
+    rt: &R,
+    root: &str,
+    path: &str,
+    lower: &str,
+) -> Result<bool, AllocError> {
+    let holder = real_folder(rt, root, path)?;
+    let to = real_folder(rt, root, lower)?;
+    let to = to.as_str();
+    Ok(match holder.as_str().strip_prefix(to) {
+        Some(rest) => rest.is_empty() || rest.starts_with('/') || to.ends_with('/'),
+        None => false,
+    })
+}
+
+/// Adds the folder with a name in the one at a path, if it is there. A link to a folder that the link is in is not
+/// added, since it has no end.
+fn add_any<R: Files + AllocGlobal>(
     rt: &R,
     root: &str,
     path: &str,
@@ -83,13 +116,16 @@ fn add_own<R: Files + AllocGlobal>(
     found: &mut Vec<String>,
 ) -> Result<(), AllocError> {
     let lower = inside(rt.alloc(), path, name)?;
-    if is_own_folder(rt, root, lower.as_str())? {
+    if !is_folder_below(rt, root, lower.as_str())? {
+        return Ok(());
+    }
+    if is_own_folder(rt, root, lower.as_str())? || !leads_back(rt, root, path, lower.as_str())? {
         found.push(lower)?;
     }
     Ok(())
 }
 
-/// Adds the folders below the last ones, links not followed.
+/// Adds the folders below the last ones.
 fn add_below<R: Files + AllocGlobal + Clone + Drop>(
     rt: &R,
     root: &str,
@@ -104,7 +140,7 @@ fn add_below<R: Files + AllocGlobal + Clone + Drop>(
         };
         let path = path.clone()?;
         for name in &names_below(rt, root, path.as_str())? {
-            add_own(rt, root, path.as_str(), name.as_str(), found)?;
+            add_any(rt, root, path.as_str(), name.as_str(), found)?;
         }
     }
     Ok(())

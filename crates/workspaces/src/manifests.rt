@@ -1,5 +1,10 @@
 //! Manifests as texts and tables, and paths relative to each other.
 
+ghost use Rattle.std.specs.Prelude.{IfOk};
+ghost use Rattle.std.specs.Option.{option_map};
+ghost use Rattle.toml.specs.View.{table_view};
+ghost use Rattle.workspaces.specs.Documents.{SpellsTable};
+
 use crate::patterns::plain_components;
 use input_limits::without_mark;
 use std::alloc::{AllocError, Global};
@@ -153,7 +158,9 @@ pub fn is_file<R: Files + AllocGlobal>(rt: &R, path: &str) -> Result<bool, Alloc
 }
 
 /// Returns the table of a TOML text, or `None` if the text is not TOML.
-pub fn table_of(alloc: Global, text: &str) -> Result<Option<Table>, AllocError> {
+pub fn table_of(alloc: Global, text: &str) -> Result<Option<Table>, AllocError>
+    ensures { IfOk result (λ found. SpellsTable text.now (option_map table_view found)) }
+{
     match table_from_str(alloc, without_mark(text)) {
         Ok(table) => Ok(Some(table)),
         Err(error) => {

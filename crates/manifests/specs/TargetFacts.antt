@@ -13,7 +13,7 @@ use Rattle.partial_facts.specs.Partly.{is_named}
 
 -- the set has each fact that is added, and of the names and keys that are not open the facts that are listed or added,
 -- and no others
-pub record IsAsked (listed added : FactSet) (open_keys : List (List ℕ)) (s : FactSet) : Type 0 where
+pub record HasTargetFacts (listed added : FactSet) (open_keys : List (List ℕ)) (s : FactSet) : Type 0 where
   pub has : HasAllFacts added s
   pub same : (p : Pair) → contains added p ≡ false → is_named p.name open_keys ≡ false
       → contains s p ≡ contains listed p
@@ -24,12 +24,12 @@ told_by true o l = Some true
 told_by false true l = None
 told_by false false l = Some l
 
-abbrev pub asked_told : FactSet → FactSet → List (List ℕ) → Pair → Option Bool
-asked_told listed added open_keys p = told_by (contains added p) (is_named p.name open_keys) (contains listed p)
+abbrev pub facts_told : FactSet → FactSet → List (List ℕ) → Pair → Option Bool
+facts_told listed added open_keys p = told_by (contains added p) (is_named p.name open_keys) (contains listed p)
 
 -- one such set: the facts that are listed and those that are added
-abbrev pub asked_example : List CfgValue → List CfgValue → FactSet
-asked_example listed added = fact_set (listed ++ added)
+abbrev pub facts_example : List CfgValue → List CfgValue → FactSet
+facts_example listed added = fact_set (listed ++ added)
 
 -- a pair is in the set of two lists exactly if it is in that of one of them
 joined : (cs ds : List CfgValue) (p : Pair)
@@ -51,9 +51,9 @@ or_false : (a b : Bool) → b ≡ false → (a || b) ≡ a
 or_false true b h = refl
 or_false false b h = h
 
-pub asked_possible : (cs ds : List CfgValue) (open_keys : List (List ℕ))
-    → IsAsked (fact_set cs) (fact_set ds) open_keys (asked_example cs ds)
-asked_possible cs ds open_keys = record {
+pub facts_possible : (cs ds : List CfgValue) (open_keys : List (List ℕ))
+    → HasTargetFacts (fact_set cs) (fact_set ds) open_keys (facts_example cs ds)
+facts_possible cs ds open_keys = record {
   has = λ p h. rw (joined cs ds p) (or_true (contains (fact_set cs) p) (contains (fact_set ds) p) h);
   same = λ p out shut. joined cs ds p ∙ or_false (contains (fact_set cs) p) (contains (fact_set ds) p) out;
 }
@@ -64,8 +64,8 @@ sound_by true o l c h k = h refl
 sound_by false true l c h k = tt
 sound_by false false l c h k = k refl refl
 
-pub asked_sound : (listed added : FactSet) (open_keys : List (List ℕ)) (s : FactSet) (p : Pair)
-    → IsAsked listed added open_keys s
-    → IfSome (asked_told listed added open_keys p) (λ b. contains s p ≡ b)
-asked_sound listed added open_keys s p is =
+pub facts_sound : (listed added : FactSet) (open_keys : List (List ℕ)) (s : FactSet) (p : Pair)
+    → HasTargetFacts listed added open_keys s
+    → IfSome (facts_told listed added open_keys p) (λ b. contains s p ≡ b)
+facts_sound listed added open_keys s p is =
     sound_by (contains added p) (is_named p.name open_keys) (contains listed p) (contains s p) (is.has p) (is.same p)
