@@ -2,6 +2,7 @@
 
 ghost use Rattle.std.specs.Prelude.{◌≡◌, ◌≤◌, IfOk, IfErr, IfSome, Some, string_len, string_bytes};
 ghost use Rattle.std.specs.IoError.{error_kind};
+ghost use Rattle.input_limits.specs.Marks.{IsUnmarked};
 ghost use Rattle.input_limits.specs.Refusals.{IsWhyNoText, IsReason};
 
 use std::alloc::{AllocError, Global};
@@ -104,8 +105,13 @@ pub fn given_within<R: Files + Input + AllocGlobal>(
 }
 
 /// Returns the text without a byte order mark, which some editors write before it.
-pub fn without_mark(text: &str) -> &str {
-    text.strip_prefix("\u{FEFF}").unwrap_or(text)
+pub fn without_mark(text: &str) -> &str
+    ensures { IsUnmarked text.now result.now }
+{
+    match text.strip_prefix("\u{FEFF}") {
+        Some(rest) => rest,
+        None => text,
+    }
 }
 
 /// Returns the reason why a text was rejected that was read to this limit.

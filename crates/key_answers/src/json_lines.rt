@@ -40,7 +40,8 @@ fn escaped(alloc: Global, json: &str, shown: &str) -> Result<String, AllocError>
     Ok(text)
 }
 
-/// Returns printed JSON with an escape for each character that [`shown_text`] hides. It is what `shown_text` returns, so
+/// Returns printed JSON with an escape for each character that [`shown_text`] hides. It is what `shown_text` returns,
+/// so
 /// that nothing of it is hidden.
 fn with_escapes(alloc: Global, json: &str) -> Result<String, AllocError>
     ensures { IfOk result (λ s. IsShownText (string_bytes s)) }

@@ -9,6 +9,4 @@ pub mod json_lines;
 mod line_writer;
 pub mod printing;
 pub mod targets;
-#[cfg(test)]
-mod tests;
 mod work;

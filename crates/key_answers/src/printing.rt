@@ -110,7 +110,7 @@ fn push_fault(
 
 /// Returns the message for an invalid key.
 pub fn refused_key(alloc: Global, key: &str, error: &ParseError) -> Result<String, AllocError> {
-    let mut text = String::from_str(alloc, "error: the key spells no condition\n")?;
+    let mut text = String::from_str(alloc, "error: invalid key\n")?;
     let snippet = error.snippet_in(alloc, key)?;
     push_fault(&mut text, alloc, error, snippet)?;
     Ok(text)
@@ -130,7 +130,7 @@ pub fn refused_fact(
     number: usize,
     error: &ParseError,
 ) -> Result<String, AllocError> {
-    let mut text = format!(in alloc; "error: line {number} of the facts spells no fact\n")?;
+    let mut text = format!(in alloc; "error: line {number} of the facts is not a fact\n")?;
     let snippet = error.snippet(alloc)?;
     push_fault(&mut text, alloc, error, snippet)?;
     Ok(text)
@@ -138,7 +138,7 @@ pub fn refused_fact(
 
 /// Returns the message for an argument that is not a fact.
 pub fn refused_cfg(alloc: Global, error: &ParseError) -> Result<String, AllocError> {
-    let mut text = String::from_str(alloc, "error: what stands after --cfg spells no fact\n")?;
+    let mut text = String::from_str(alloc, "error: the value of --cfg is not a fact\n")?;
     let snippet = error.snippet(alloc)?;
     push_fault(&mut text, alloc, error, snippet)?;
     Ok(text)
