@@ -10,8 +10,6 @@ mod reading;
 mod relations;
 mod serial;
 mod sources;
-#[cfg(test)]
-mod tests;
 
 pub use document::{
     Bom, BomMetadata, Component, ExternalReference, Hash, LicenceChoice, LicenceName, LicenceText,

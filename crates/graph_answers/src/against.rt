@@ -1,11 +1,11 @@
 //! `--against`: what has changed since an older output of `cargo metadata`.
 
 use cargo_metadata::Package as Described;
-use graph_queries::asked::Asked;
 use graph_queries::differences::difference_of;
 use graph_queries::graph::{Graph, source_of};
 use graph_queries::lines::{push, push_comma, shown, shown_targets};
 use graph_queries::pairs::{Pair, pairs_of};
+use graph_queries::query::GraphQuery;
 use key_answers::answer::{Answer, Refusal, Status, unusable_words};
 use key_answers::json_lines;
 use key_answers::printing::shown_name;
@@ -117,7 +117,7 @@ fn present_in<'d>(
     alloc: Global,
     graph: &Graph<'d>,
     index: Option<usize>,
-    asked: &Asked<'_>,
+    query: &GraphQuery<'_>,
 ) -> Result<Option<Present<'d>>, AllocError> {
     let Some(index) = index else {
         return Ok(None);
@@ -129,8 +129,8 @@ fn present_in<'d>(
         version: described.version,
         license: described.license,
         source: registry_of(described),
-        at: graph.at(index, asked),
-        features: graph.features_on(alloc, index, asked)?,
+        at: graph.at(index, query),
+        features: graph.features_on(alloc, index, query)?,
     }))
 }
 
@@ -307,24 +307,28 @@ fn push_targets(
     alloc: Global,
     what: &str,
     targets: TargetSet,
-    asked: &Asked<'_>,
+    query: &GraphQuery<'_>,
 ) -> Result<(), AllocError> {
     if targets.is_empty() {
         return Ok(());
     }
-    let targets = shown_targets(alloc, targets, asked)?;
+    let targets = shown_targets(alloc, targets, query)?;
     let note = format!(in alloc; "{what} {targets}")?;
     push_note(notes, note.as_str())
 }
 
 /// Returns the notes on what differs in a package that is in both answers.
-fn notes_on(alloc: Global, change: &Change<'_>, asked: &Asked<'_>) -> Result<String, AllocError> {
+fn notes_on(
+    alloc: Global,
+    change: &Change<'_>,
+    query: &GraphQuery<'_>,
+) -> Result<String, AllocError> {
     let mut notes = String::new(alloc);
     let (Some(old), Some(new)) = (&change.old, &change.new) else {
         return Ok(notes);
     };
-    push_targets(&mut notes, alloc, "new on", change.gained, asked)?;
-    push_targets(&mut notes, alloc, "gone from", change.lost, asked)?;
+    push_targets(&mut notes, alloc, "new on", change.gained, query)?;
+    push_targets(&mut notes, alloc, "gone from", change.lost, query)?;
     if old.license != new.license {
         push_texts(&mut notes, alloc, "licence", old.license, new.license)?;
     }
@@ -354,7 +358,7 @@ fn package_of(alloc: Global, change: &Change<'_>) -> Result<String, AllocError> 
 }
 
 /// Returns a change as text.
-fn row_of(alloc: Global, change: &Change<'_>, asked: &Asked<'_>) -> Result<Row, AllocError> {
+fn row_of(alloc: Global, change: &Change<'_>, query: &GraphQuery<'_>) -> Result<Row, AllocError> {
     let targets = match &change.new {
         Some(new) => new.at,
         None => change.lost,
@@ -362,8 +366,8 @@ fn row_of(alloc: Global, change: &Change<'_>, asked: &Asked<'_>) -> Result<Row, 
     Ok(Row {
         word: change.word,
         package: package_of(alloc, change)?,
-        targets: shown_targets(alloc, targets, asked)?,
-        notes: notes_on(alloc, change, asked)?,
+        targets: shown_targets(alloc, targets, query)?,
+        notes: notes_on(alloc, change, query)?,
     })
 }
 
@@ -408,7 +412,7 @@ fn push_object(
     alloc: Global,
     change: &Change<'_>,
     has_features: bool,
-    asked: &Asked<'_>,
+    query: &GraphQuery<'_>,
 ) -> Result<(), AllocError> {
     let at = targets_of(&change.new);
     let old = change.old.as_ref();
@@ -418,10 +422,10 @@ fn push_object(
         name: change.name,
         version: new.map(|it| it.version),
         old_version: old.map(|it| it.version),
-        targets: asked.count_of(at),
-        at: asked.at(alloc, at)?,
-        gained: asked.at(alloc, change.gained)?,
-        lost: asked.at(alloc, change.lost)?,
+        targets: query.count_of(at),
+        at: query.at(alloc, at)?,
+        gained: query.at(alloc, change.gained)?,
+        lost: query.at(alloc, change.lost)?,
         license: new.and_then(|it| it.license),
         old_license: old.and_then(|it| it.license),
         source: new.and_then(|it| it.source),
@@ -445,10 +449,10 @@ fn change_of<'d>(
     old: &Graph<'d>,
     new: &Graph<'d>,
     pair: &Pair<'d>,
-    asked: &Asked<'_>,
+    query: &GraphQuery<'_>,
 ) -> Result<Change<'d>, AllocError> {
-    let before = present_in(alloc, old, pair.old, asked)?;
-    let after = present_in(alloc, new, pair.new, asked)?;
+    let before = present_in(alloc, old, pair.old, query)?;
+    let after = present_in(alloc, new, pair.new, query)?;
     Change::of(alloc, pair.name, before, after)
 }
 
@@ -469,13 +473,13 @@ fn push_change(
     alloc: Global,
     change: &Change<'_>,
     has_features: bool,
-    asked: &Asked<'_>,
+    query: &GraphQuery<'_>,
 ) -> Result<(), AllocError> {
-    if asked.json {
-        return push_object(text, alloc, change, has_features, asked);
+    if query.json {
+        return push_object(text, alloc, change, has_features, query);
     }
-    let row = row_of(alloc, change, asked)?;
-    if !asked.markdown {
+    let row = row_of(alloc, change, query)?;
+    if !query.markdown {
         return push_line(text, alloc, &row);
     }
     if text.is_empty() {
@@ -517,7 +521,7 @@ pub fn show_changes<'d>(
     alloc: Global,
     old: &Graph<'d>,
     new: &Graph<'d>,
-    asked: &Asked<'_>,
+    query: &GraphQuery<'_>,
     failing: ChangeKinds,
 ) -> Result<Answer, AllocError> {
     let mut answer = Answer::of(alloc, String::new(alloc), Status::Fine);
@@ -526,8 +530,8 @@ pub fn show_changes<'d>(
     }
     let has_features = new.features.is_some();
     let mut count: usize = 0;
-    for pair in &pairs_of(alloc, old, new, asked)? {
-        let mut change = change_of(alloc, old, new, pair, asked)?;
+    for pair in &pairs_of(alloc, old, new, query)? {
+        let mut change = change_of(alloc, old, new, pair, query)?;
         let kinds = change.kinds();
         let Some(word) = word_of(&kinds) else {
             continue;
@@ -537,9 +541,9 @@ pub fn show_changes<'d>(
             answer.raise(Status::Found);
         }
         change.word = word;
-        push_change(&mut answer.output, alloc, &change, has_features, asked)?;
+        push_change(&mut answer.output, alloc, &change, has_features, query)?;
     }
-    if !asked.json {
+    if !query.json {
         push_count(&mut answer.errors, alloc, count)?;
     }
     Ok(answer)

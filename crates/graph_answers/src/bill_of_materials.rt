@@ -1,10 +1,10 @@
 //! `--format cyclonedx`: a software bill of materials, as a CycloneDX document.
 
-use crate::asked::{Asked, Words};
 use crate::components::{Listed, is_root, listed_of};
 use crate::dates::time_of;
 use crate::graph::Graph;
 use crate::lines::{shown, shown_package};
+use crate::query::{GraphArguments, GraphQuery};
 use cyclonedx::{
     Bom, BomMetadata, Component, Edge, LockFile, Node, Property, ToolComponent, Tools,
     relations_of, serial_number,
@@ -30,10 +30,12 @@ pub struct Bill<'a> {
 }
 
 /// Returns the message for options that `--format` excludes, if there are any.
-pub fn misplaced_format(words: &Words<'_>) -> Option<&'static str> {
-    let is_audit = words.allow.is_some() || words.allow_file.is_some() || words.policy.is_some();
-    let is_other = words.json || words.show.is_some() || words.html.is_some();
-    if is_audit || is_other || words.against.is_some() {
+pub fn misplaced_format(arguments: &GraphArguments<'_>) -> Option<&'static str> {
+    let is_audit = arguments.allow.is_some()
+        || arguments.allow_file.is_some()
+        || arguments.policy.is_some();
+    let is_other = arguments.json || arguments.show.is_some() || arguments.html.is_some();
+    if is_audit || is_other || arguments.against.is_some() {
         return Some(
             "--format excludes --json, --show, --allow, --allow-file, --policy, --against and --html",
         );
@@ -95,7 +97,7 @@ fn places_of(
 fn edges_of(
     alloc: Global,
     graph: &Graph<'_>,
-    asked: &Asked<'_>,
+    query: &GraphQuery<'_>,
     places: &[usize],
     index: usize,
 ) -> Result<Vec<Edge>, AllocError> {
@@ -105,7 +107,7 @@ fn edges_of(
     };
     for i in 0..unit.dependencies.len() {
         if let Some(to) = places.get(unit.dependencies[i].to).copied() {
-            let at = graph.followed(index, i, asked).targets();
+            let at = graph.followed(index, i, query).targets();
             edges.push(Edge { to, at })?;
         }
     }
@@ -130,20 +132,20 @@ fn only_root(graph: &Graph<'_>, packages: &[Listed<'_>]) -> Option<usize> {
 fn workspace_node<'n>(
     alloc: Global,
     graph: &Graph<'_>,
-    asked: &Asked<'_>,
+    query: &GraphQuery<'_>,
     packages: &[Listed<'_>],
 ) -> Result<Node<'n>, AllocError> {
     let mut edges = Vec::new(alloc);
     for i in 0..packages.len() {
         let index = packages[i].index;
         if is_root(graph, index) {
-            let at = graph.at(index, asked);
+            let at = graph.at(index, query);
             edges.push(Edge { to: i, at })?;
         }
     }
     Ok(Node {
         reference: WORKSPACE,
-        at: asked.targets,
+        at: query.targets,
         edges,
     })
 }
@@ -153,7 +155,7 @@ fn workspace_node<'n>(
 fn nodes_of<'n>(
     alloc: Global,
     graph: &Graph<'_>,
-    asked: &Asked<'_>,
+    query: &GraphQuery<'_>,
     packages: &[Listed<'_>],
     references: &[&'n str],
 ) -> Result<Vec<Node<'n>>, AllocError> {
@@ -164,15 +166,15 @@ fn nodes_of<'n>(
         let Some(package) = packages.get(i) else {
             continue;
         };
-        let at = graph.at(package.index, asked);
+        let at = graph.at(package.index, query);
         nodes.push(Node {
             reference: *reference,
-            at: if root == Some(i) { asked.targets } else { at },
-            edges: edges_of(alloc, graph, asked, &places, package.index)?,
+            at: if root == Some(i) { query.targets } else { at },
+            edges: edges_of(alloc, graph, query, &places, package.index)?,
         })?;
     }
     if root.is_none() {
-        nodes.push(workspace_node(alloc, graph, asked, packages)?)?;
+        nodes.push(workspace_node(alloc, graph, query, packages)?)?;
     }
     Ok(nodes)
 }
@@ -192,10 +194,10 @@ fn joined(alloc: Global, texts: &[&str]) -> Result<String, AllocError> {
 /// Returns targets as the value of a property: `all` for the selected ones, and else their names, joined by commas.
 fn targets_value(
     alloc: Global,
-    asked: &Asked<'_>,
+    query: &GraphQuery<'_>,
     targets: TargetSet,
 ) -> Result<String, AllocError> {
-    match asked.at(alloc, targets)? {
+    match query.at(alloc, targets)? {
         At::All(_) => String::from_str(alloc, "all"),
         At::Names(names) => joined(alloc, &names),
     }
@@ -217,36 +219,36 @@ fn add_property(
 fn properties_of(
     alloc: Global,
     graph: &Graph<'_>,
-    asked: &Asked<'_>,
+    query: &GraphQuery<'_>,
     index: usize,
 ) -> Result<Vec<Property>, AllocError> {
     let mut properties = Vec::new(alloc);
-    let built = graph.built(index, asked);
+    let built = graph.built(index, query);
     if let Some(side) = built.sides().word() {
         add_property(&mut properties, alloc, "nevgrasi:side", side)?;
     }
-    if asked.count > 1 && !built.targets().is_empty() {
-        let value = targets_value(alloc, asked, built.targets())?;
+    if query.count > 1 && !built.targets().is_empty() {
+        let value = targets_value(alloc, query, built.targets())?;
         add_property(&mut properties, alloc, "nevgrasi:targets", value.as_str())?;
     }
     Ok(properties)
 }
 
 /// Returns the names of the selected targets, joined by commas, or `all` if none is selected by name.
-fn selected_value(alloc: Global, asked: &Asked<'_>) -> Result<String, AllocError> {
-    if !asked.are_named {
+fn selected_value(alloc: Global, query: &GraphQuery<'_>) -> Result<String, AllocError> {
+    if !query.are_named {
         return String::from_str(alloc, "all");
     }
-    joined(alloc, &asked.names(alloc, asked.targets)?)
+    joined(alloc, &query.names(alloc, query.targets)?)
 }
 
 /// Returns the properties of the document: the targets and the side that are selected.
-fn selection_of(alloc: Global, asked: &Asked<'_>) -> Result<Vec<Property>, AllocError> {
+fn selection_of(alloc: Global, query: &GraphQuery<'_>) -> Result<Vec<Property>, AllocError> {
     let mut properties = Vec::new(alloc);
-    if let Some(side) = asked.side {
+    if let Some(side) = query.side {
         add_property(&mut properties, alloc, "nevgrasi:side", side_word(side))?;
     }
-    let value = selected_value(alloc, asked)?;
+    let value = selected_value(alloc, query)?;
     add_property(&mut properties, alloc, "nevgrasi:targets", value.as_str())?;
     Ok(properties)
 }
@@ -255,11 +257,11 @@ fn selection_of(alloc: Global, asked: &Asked<'_>) -> Result<Vec<Property>, Alloc
 fn component_of<'a>(
     alloc: Global,
     graph: &Graph<'_>,
-    asked: &Asked<'_>,
+    query: &GraphQuery<'_>,
     package: &Listed<'a>,
     reference: &str,
 ) -> Result<Component<'a>, AllocError> {
-    let properties = properties_of(alloc, graph, asked, package.index)?;
+    let properties = properties_of(alloc, graph, query, package.index)?;
     package.component(alloc, reference, properties)
 }
 
@@ -292,7 +294,7 @@ fn workspace_component<'a>(alloc: Global, graph: &Graph<'a>) -> Result<Component
 fn components_of<'a>(
     alloc: Global,
     graph: &Graph<'_>,
-    asked: &Asked<'_>,
+    query: &GraphQuery<'_>,
     packages: &[Listed<'a>],
     nodes: &[Node<'_>],
 ) -> Result<Vec<Component<'a>>, AllocError> {
@@ -303,7 +305,7 @@ fn components_of<'a>(
             continue;
         };
         if node.is_included() && root != Some(i) {
-            components.push(component_of(alloc, graph, asked, &packages[i], node.reference)?)?;
+            components.push(component_of(alloc, graph, query, &packages[i], node.reference)?)?;
         }
     }
     Ok(components)
@@ -313,13 +315,13 @@ fn components_of<'a>(
 fn subject_of<'a>(
     alloc: Global,
     graph: &Graph<'a>,
-    asked: &Asked<'_>,
+    query: &GraphQuery<'_>,
     packages: &[Listed<'a>],
     nodes: &[Node<'_>],
 ) -> Result<Component<'a>, AllocError> {
     if let Some(root) = only_root(graph, packages) {
         if let (Some(package), Some(node)) = (packages.get(root), nodes.get(root)) {
-            return component_of(alloc, graph, asked, package, node.reference);
+            return component_of(alloc, graph, query, package, node.reference);
         }
     }
     workspace_component(alloc, graph)
@@ -328,7 +330,7 @@ fn subject_of<'a>(
 /// Returns what a document says of itself.
 fn metadata_of<'a>(
     alloc: Global,
-    asked: &Asked<'_>,
+    query: &GraphQuery<'_>,
     bill: &Bill<'_>,
     component: Component<'a>,
 ) -> Result<BomMetadata<'a>, AllocError> {
@@ -347,7 +349,7 @@ fn metadata_of<'a>(
             components: programs,
         },
         component,
-        properties: selection_of(alloc, asked)?,
+        properties: selection_of(alloc, query)?,
     })
 }
 
@@ -367,20 +369,20 @@ fn printed(alloc: Global, bom: Bom<'_, '_>) -> Result<String, AllocError> {
 fn document_of<'a>(
     alloc: Global,
     graph: &Graph<'a>,
-    asked: &Asked<'_>,
+    query: &GraphQuery<'_>,
     bill: &Bill<'_>,
     packages: &[Listed<'a>],
 ) -> Result<Answer, AllocError> {
     let references = references_of(alloc, packages)?;
-    let nodes = nodes_of(alloc, graph, asked, packages, &references)?;
-    let component = subject_of(alloc, graph, asked, packages, &nodes)?;
+    let nodes = nodes_of(alloc, graph, query, packages, &references)?;
+    let component = subject_of(alloc, graph, query, packages, &nodes)?;
     let bom = Bom {
         bom_format: "CycloneDX",
         spec_version: "1.5",
         serial_number: None,
         version: 1,
-        metadata: metadata_of(alloc, asked, bill, component)?,
-        components: components_of(alloc, graph, asked, packages, &nodes)?,
+        metadata: metadata_of(alloc, query, bill, component)?,
+        components: components_of(alloc, graph, query, packages, &nodes)?,
         dependencies: relations_of(alloc, &nodes)?,
     };
     Ok(Answer::of(alloc, printed(alloc, bom)?, Status::Fine))
@@ -420,7 +422,7 @@ pub fn show_bill<'a>(
     alloc: Global,
     document: &'a Value,
     graph: &Graph<'a>,
-    asked: &Asked<'_>,
+    query: &GraphQuery<'_>,
     bill: &Bill<'_>,
 ) -> Result<Answer, Rejected> {
     let lock = match bill.lock {
@@ -429,5 +431,5 @@ pub fn show_bill<'a>(
     };
     let packages = listed_of(alloc, graph, document, lock)?;
     reject_unlocked(alloc, bill, &packages)?;
-    Ok(document_of(alloc, graph, asked, bill, &packages)?)
+    Ok(document_of(alloc, graph, query, bill, &packages)?)
 }

@@ -1,9 +1,9 @@
 //! Dependency paths from the roots of a graph to the packages that an audit reports.
 
-use crate::asked::Asked;
 use crate::graph::Graph;
+use crate::query::GraphQuery;
 use known_targets::{KnownTarget, TargetSet};
-use licence_audits::Told;
+use licence_audits::PackageFinding;
 use package_graphs::{PathQuery, PathTo, Side, Step, shortest_paths};
 use std::alloc::{AllocError, Global};
 
@@ -21,15 +21,15 @@ struct FirstTarget {
 fn first_targets(
     alloc: Global,
     graph: &Graph<'_>,
-    told: &[Told],
-    asked: &Asked<'_>,
+    findings: &[PackageFinding],
+    query: &GraphQuery<'_>,
 ) -> Result<Vec<FirstTarget>, AllocError> {
     let mut firsts = Vec::new(alloc);
-    for one in told {
+    for one in findings {
         let Some(index) = graph.order.get(one.place).copied() else {
             continue;
         };
-        if let Some(target) = graph.at(index, asked).iter().next() {
+        if let Some(target) = graph.at(index, query).iter().next() {
             firsts.push(FirstTarget { index, target })?;
         }
     }
@@ -72,7 +72,7 @@ fn packages_on(alloc: Global, path: &PathTo) -> Result<PackagesOn, AllocError> {
 fn add_paths(
     alloc: Global,
     graph: &Graph<'_>,
-    asked: &Asked<'_>,
+    query: &GraphQuery<'_>,
     (firsts, target): (&[FirstTarget], KnownTarget),
     paths: &mut [PackagesOn],
 ) -> Result<(), AllocError> {
@@ -83,8 +83,8 @@ fn add_paths(
         }
     }
     let query = PathQuery {
-        kinds: asked.kinds,
-        host: asked.host,
+        kinds: query.kinds,
+        host: query.host,
         at: target,
         side: graph.side,
     };
@@ -104,20 +104,20 @@ fn add_paths(
 pub fn paths_to_reported(
     alloc: Global,
     graph: &Graph<'_>,
-    told: &[Told],
-    asked: &Asked<'_>,
+    findings: &[PackageFinding],
+    query: &GraphQuery<'_>,
 ) -> Result<Vec<PackagesOn>, AllocError> {
     let mut paths: Vec<PackagesOn> = Vec::new(alloc);
     for _ in 0..graph.order.len() {
         paths.push(Vec::new(alloc))?;
     }
-    let firsts = first_targets(alloc, graph, told, asked)?;
+    let firsts = first_targets(alloc, graph, findings, query)?;
     let mut targets = TargetSet::none();
     for first in &firsts {
         targets = targets.union(TargetSet::only(first.target));
     }
     for target in targets.iter() {
-        add_paths(alloc, graph, asked, (&firsts, target), &mut paths)?;
+        add_paths(alloc, graph, query, (&firsts, target), &mut paths)?;
     }
     Ok(paths)
 }

@@ -19,7 +19,7 @@ mod unused;
 
 pub use against::{kinds_of, show_changes};
 pub use excluded::exclude;
-use graph_queries::{asked, graph, lines, packages};
+use graph_queries::{graph, lines, packages, query};
 pub use licences::{Audit, reported_in, show_licences};
 pub use page::page_of;
-pub use policies::{AuditPolicy, GivenPolicy, GraphNames, policy_of, words_by_policy};
+pub use policies::{AuditPolicy, GivenPolicy, GraphNames, arguments_by_policy, policy_of};

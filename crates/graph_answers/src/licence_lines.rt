@@ -83,11 +83,11 @@ impl<'r, 'a> Reported<'r, 'a> {
         finding: &Finding,
     ) -> Result<(), AllocError> {
         let graph = self.graph;
-        let asked = self.asked;
+        let query = self.query;
         let (Some(described), Some(path)) = (graph.described(index), self.paths.get(index)) else {
             return Ok(());
         };
-        let built = graph.built(index, asked);
+        let built = graph.built(index, query);
         let targets = built.targets();
         let (message, span) = fault_of(alloc, finding)?;
         let expression = match finding {
@@ -100,8 +100,8 @@ impl<'r, 'a> Reported<'r, 'a> {
             license: described.license,
             expression,
             license_file: described.license_file,
-            targets: asked.count_of(targets),
-            at: asked.at(alloc, targets)?,
+            targets: query.count_of(targets),
+            at: query.at(alloc, targets)?,
             path: ids_of(alloc, graph, path)?,
             side: built.sides().word(),
             finding: Reason::of(finding, described).word(),
@@ -113,7 +113,7 @@ impl<'r, 'a> Reported<'r, 'a> {
 
     /// Appends a line for each reported package. Fails if an allocation fails.
     pub fn push_objects(&self, text: &mut String, alloc: Global) -> Result<(), AllocError> {
-        for one in self.told {
+        for one in self.findings {
             if let Some(index) = self.graph.order.get(one.place) {
                 self.push_object(text, alloc, *index, &one.finding)?;
             }

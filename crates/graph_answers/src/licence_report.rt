@@ -1,15 +1,15 @@
 //! The report of an audit for people: the licences for which packages are reported, each with its packages, and how
 //! many packages there are by reason.
 
-use crate::asked::Asked;
 use crate::dependency_paths::PackagesOn;
 use crate::faults::fault_lines;
 use crate::graph::Graph;
 use crate::lines::{push, push_comma, shown, shown_targets};
+use crate::query::GraphQuery;
 use cargo_metadata::Package as Described;
 use cargo_platform::shown_start;
 use known_targets::TargetSet;
-use licence_audits::{Finding, Subject, Told};
+use licence_audits::{Finding, PackageFinding, Subject};
 use std::alloc::{AllocError, Global};
 
 /// The indentation of the lines below that of a licence.
@@ -85,11 +85,11 @@ type Labelled = (String, usize);
 fn sorted_labels(
     alloc: Global,
     graph: &Graph<'_>,
-    told: &[Told],
+    findings: &[PackageFinding],
 ) -> Result<Vec<Labelled>, AllocError> {
     let mut labels = Vec::new(alloc);
-    for place in 0..told.len() {
-        let one = &told[place];
+    for place in 0..findings.len() {
+        let one = &findings[place];
         let Some(index) = graph.order.get(one.place) else {
             continue;
         };
@@ -105,8 +105,8 @@ fn sorted_labels(
 #[derive(Clone, Copy, Drop)]
 pub struct Reported<'r, 'a> {
     pub graph: &'r Graph<'a>,
-    pub told: &'r [Told],
-    pub asked: &'r Asked<'a>,
+    pub findings: &'r [PackageFinding],
+    pub query: &'r GraphQuery<'a>,
     /// The dependency paths to the reported packages, by the indexes of these.
     pub paths: &'r [PackagesOn],
 }
@@ -114,15 +114,15 @@ pub struct Reported<'r, 'a> {
 impl<'r, 'a> Reported<'r, 'a> {
     /// Returns the index of the package of a report.
     fn index_of(&self, place: usize) -> Option<usize> {
-        let one = self.told.get(place)?;
+        let one = self.findings.get(place)?;
         self.graph.order.get(one.place).copied()
     }
 
     /// Returns the indented lines of the error of a licence that is no expression, and an empty text for any other.
     fn error_lines(&self, alloc: Global, place: usize) -> Result<String, AllocError> {
-        match self.told.get(place) {
+        match self.findings.get(place) {
             Some(
-                Told {
+                PackageFinding {
                     place: _,
                     finding: Finding::Refused(error),
                 },
@@ -168,8 +168,8 @@ impl<'r, 'a> Reported<'r, 'a> {
             return Ok(());
         };
         let package = self.graph.shown(alloc, index)?;
-        let built = self.graph.built(index, self.asked);
-        let targets = shown_targets(alloc, built.targets(), self.asked)?;
+        let built = self.graph.built(index, self.query);
+        let targets = shown_targets(alloc, built.targets(), self.query)?;
         let note = built.sides().note();
         let line = format!(in alloc; "{start}{package}{note}, {targets}\n")?;
         push(text, line.as_str())?;
@@ -183,7 +183,7 @@ impl<'r, 'a> Reported<'r, 'a> {
         let mut targets = TargetSet::none();
         for (_, place) in group {
             if let Some(index) = self.index_of(*place) {
-                targets = targets.union(self.graph.at(index, self.asked));
+                targets = targets.union(self.graph.at(index, self.query));
             }
         }
         targets
@@ -205,7 +205,7 @@ impl<'r, 'a> Reported<'r, 'a> {
             }
             return Ok(());
         }
-        let targets = shown_targets(alloc, self.targets_of(group), self.asked)?;
+        let targets = shown_targets(alloc, self.targets_of(group), self.query)?;
         let count = group.len();
         let line = format!(in alloc; "{label}: {count} packages, {targets}\n")?;
         push(text, line.as_str())?;
@@ -217,7 +217,7 @@ impl<'r, 'a> Reported<'r, 'a> {
 
     /// Appends the reported packages, in groups of one licence each. A licence of one package has one line.
     pub fn push_groups(&self, text: &mut String, alloc: Global) -> Result<(), AllocError> {
-        let labels = sorted_labels(alloc, self.graph, self.told)?;
+        let labels = sorted_labels(alloc, self.graph, self.findings)?;
         let mut rest = labels.as_slice();
         for _ in 0..labels.len() {
             let Some((label, _)) = rest.first() else {
@@ -236,9 +236,13 @@ impl<'r, 'a> Reported<'r, 'a> {
 }
 
 /// Returns the reasons of the reported packages.
-fn reasons_of(alloc: Global, graph: &Graph<'_>, told: &[Told]) -> Result<Vec<Reason>, AllocError> {
+fn reasons_of(
+    alloc: Global,
+    graph: &Graph<'_>,
+    findings: &[PackageFinding],
+) -> Result<Vec<Reason>, AllocError> {
     let mut reasons = Vec::new(alloc);
-    for one in told {
+    for one in findings {
         if let Some(index) = graph.order.get(one.place) {
             if let Some(described) = graph.described(*index) {
                 reasons.push(Reason::of(&one.finding, described))?;
@@ -271,12 +275,12 @@ fn shown_reasons(alloc: Global, reasons: &[Reason]) -> Result<String, AllocError
 pub fn counts_line(
     alloc: Global,
     graph: &Graph<'_>,
-    told: &[Told],
+    findings: &[PackageFinding],
     subjects: &[Subject<'_>],
 ) -> Result<String, AllocError> {
-    let reasons = reasons_of(alloc, graph, told)?;
+    let reasons = reasons_of(alloc, graph, findings)?;
     let reasons = shown_reasons(alloc, &reasons)?;
-    let count = told.len();
+    let count = findings.len();
     let all = subjects.iter().filter(|subject| subject.is_present).count();
     format!(in alloc; "{count} of {all} packages have a licence that is not allowed{reasons}\n")
 }

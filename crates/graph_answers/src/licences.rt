@@ -1,7 +1,6 @@
 //! `--allow` and `--policy`: the packages whose licence is not satisfied by a list of allowed licences, and the targets
 //! on which they are in the build.
 
-use crate::asked::{Asked, Words, unusable_words};
 use crate::dependency_paths::paths_to_reported;
 use crate::excluded::subject_of;
 use crate::faults::{fault_lines, fault_message};
@@ -10,11 +9,12 @@ use crate::identifiers::{Messages, Place};
 use crate::licence_report::{Reported, counts_line};
 use crate::lines::push;
 use crate::policies::AuditPolicy;
+use crate::query::{GraphArguments, GraphQuery, unusable_words};
 use crate::unused::report_unused;
 use cargo_platform::shown_text;
 use key_answers::answer::{Answer, Refusal, Status};
 use key_answers::printing::shown_name;
-use licence_audits::{Exception, Finding, PackageSpec, Subject, Told, audit};
+use licence_audits::{Exception, Finding, PackageFinding, PackageSpec, Subject, audit};
 use licence_policies::{ExceptionError, exception_of};
 use spdx_expressions::{Licence, ParseError, ReadError};
 use std::alloc::{AllocError, Global};
@@ -38,7 +38,7 @@ pub struct Audit<'a> {
 fn no_licence(alloc: Global, place: Place<'_>, error: &ParseError) -> Result<String, AllocError> {
     let lines = fault_lines(alloc, error)?;
     let start = place.start(alloc, "error")?;
-    format!(in alloc; "{start}the entry spells no licence\n{lines}")
+    format!(in alloc; "{start}the entry is not a licence\n{lines}")
 }
 
 /// Parses an entry as a licence. The message of an error names `place`.
@@ -120,12 +120,16 @@ fn add_exceptions(audit: &mut Audit<'_>, alloc: Global) -> Result<(), Refusal> {
 }
 
 /// Returns an audit with the licences and exceptions of a policy alone.
-fn audit_by<'a>(alloc: Global, words: &Words<'a>, policy: Option<AuditPolicy>) -> Audit<'a> {
+fn audit_by<'a>(
+    alloc: Global,
+    arguments: &GraphArguments<'a>,
+    policy: Option<AuditPolicy>,
+) -> Audit<'a> {
     let mut audit = Audit {
         licences: Vec::new(alloc),
         exceptions: Vec::new(alloc),
-        except: words.except,
-        ignores_private: words.except_private,
+        except: arguments.except,
+        ignores_private: arguments.except_private,
         messages: Messages::new(alloc),
         policy: None,
     };
@@ -140,14 +144,16 @@ fn audit_by<'a>(alloc: Global, words: &Words<'a>, policy: Option<AuditPolicy>) -
 }
 
 /// Returns the message for options that do not go together, if there are any.
-fn misplaced(words: &Words<'_>) -> Option<&'static str> {
-    let has_list = words.allow.is_some() || words.allow_file.is_some() || words.policy.is_some();
-    if !has_list && (words.except_private || !words.except.is_empty()) {
+fn misplaced(arguments: &GraphArguments<'_>) -> Option<&'static str> {
+    let has_list = arguments.allow.is_some()
+        || arguments.allow_file.is_some()
+        || arguments.policy.is_some();
+    if !has_list && (arguments.except_private || !arguments.except.is_empty()) {
         return Some(
             "`--except` and `--except-private` go with `--allow`, `--allow-file` or `--policy`",
         );
     }
-    if has_list && words.show.is_some() {
+    if has_list && arguments.show.is_some() {
         return Some("`--show` does not go with `--allow`, `--allow-file` and `--policy`");
     }
     None
@@ -162,20 +168,20 @@ impl<'a> Audit<'a> {
     /// licence, and an argument that is not an exception. Fails if an allocation fails.
     pub fn of(
         alloc: Global,
-        words: &Words<'a>,
+        arguments: &GraphArguments<'a>,
         policy: Option<AuditPolicy>,
     ) -> Result<Option<Audit<'a>>, Refusal> {
-        if let Some(text) = misplaced(words) {
+        if let Some(text) = misplaced(arguments) {
             return Err(unusable_words(alloc, text));
         }
-        if words.allow.is_none() && words.allow_file.is_none() && policy.is_none() {
+        if arguments.allow.is_none() && arguments.allow_file.is_none() && policy.is_none() {
             return Ok(None);
         }
-        let mut audit = audit_by(alloc, words, policy);
-        if let Some(list) = words.allow {
+        let mut audit = audit_by(alloc, arguments, policy);
+        if let Some(list) = arguments.allow {
             add_list(&mut audit, alloc, list)?;
         }
-        if let Some((file, text)) = words.allow_file {
+        if let Some((file, text)) = arguments.allow_file {
             add_lines(&mut audit, alloc, file, text)?;
         }
         add_exceptions(&mut audit, alloc)?;
@@ -195,12 +201,12 @@ impl<'a> Audit<'a> {
 fn subjects_of<'a>(
     alloc: Global,
     graph: &Graph<'a>,
-    asked: &Asked<'_>,
+    query: &GraphQuery<'_>,
     by: &Audit<'_>,
 ) -> Result<Vec<Subject<'a>>, AllocError> {
     let mut subjects = Vec::new(alloc);
     for i in &graph.order {
-        let is_present = !graph.at(*i, asked).is_empty();
+        let is_present = !graph.at(*i, query).is_empty();
         let subject = match graph.described(*i) {
             Some(described) => {
                 let is_ignored = by.ignores_private && described.is_private;
@@ -222,35 +228,35 @@ fn subjects_of<'a>(
 pub fn show_licences<'a>(
     alloc: Global,
     graph: &Graph<'a>,
-    asked: &Asked<'a>,
+    query: &GraphQuery<'a>,
     by: &Audit<'_>,
 ) -> Result<Answer, AllocError> {
-    let subjects = subjects_of(alloc, graph, asked, by)?;
-    let told = audit(alloc, &subjects, &by.exceptions, &by.licences)?;
+    let subjects = subjects_of(alloc, graph, query, by)?;
+    let findings = audit(alloc, &subjects, &by.exceptions, &by.licences)?;
     let mut answer = Answer::of(alloc, String::new(alloc), Status::Fine);
     if let Some(policy) = &by.policy {
         push(&mut answer.errors, policy.messages.as_str())?;
     }
     push(&mut answer.errors, by.messages.text())?;
     report_unused(&mut answer, alloc, by, &subjects)?;
-    let messages = messages_on(alloc, graph, &told, asked)?;
+    let messages = messages_on(alloc, graph, &findings, query)?;
     push(&mut answer.errors, messages.text())?;
-    if !told.is_empty() {
+    if !findings.is_empty() {
         answer.raise(Status::Found);
     }
-    let paths = paths_to_reported(alloc, graph, &told, asked)?;
+    let paths = paths_to_reported(alloc, graph, &findings, query)?;
     let reported = Reported {
         graph,
-        told: &told,
-        asked,
+        findings: &findings,
+        query,
         paths: &paths,
     };
-    if asked.json {
+    if query.json {
         reported.push_objects(&mut answer.output, alloc)?;
         return Ok(answer);
     }
     reported.push_groups(&mut answer.output, alloc)?;
-    let line = counts_line(alloc, graph, &told, &subjects)?;
+    let line = counts_line(alloc, graph, &findings, &subjects)?;
     push(&mut answer.errors, line.as_str())?;
     Ok(answer)
 }
@@ -260,11 +266,11 @@ pub fn show_licences<'a>(
 fn messages_on(
     alloc: Global,
     graph: &Graph<'_>,
-    told: &[Told],
-    asked: &Asked<'_>,
+    findings: &[PackageFinding],
+    query: &GraphQuery<'_>,
 ) -> Result<Messages, AllocError> {
     let mut messages = Messages::new(alloc);
-    for one in told {
+    for one in findings {
         let (Some(index), Finding::NotAllowed(expression)) = (
             graph.order.get(one.place),
             &one.finding,
@@ -273,7 +279,7 @@ fn messages_on(
         };
         let name = graph.shown(alloc, *index)?;
         let license = match graph.described(*index) {
-            Some(described) if !asked.json => described.license,
+            Some(described) if !query.json => described.license,
             _ => None,
         };
         messages.add_package(alloc, name.as_str(), license, expression)?;
@@ -285,14 +291,14 @@ fn messages_on(
 pub fn reported_in(
     alloc: Global,
     graph: &Graph<'_>,
-    asked: &Asked<'_>,
+    query: &GraphQuery<'_>,
     by: &Option<Audit<'_>>,
 ) -> Result<Vec<Option<&'static str>>, AllocError> {
     let mut reported = vec![in alloc; None; graph.order.len()]?;
     let Some(by) = by else {
         return Ok(reported);
     };
-    let subjects = subjects_of(alloc, graph, asked, by)?;
+    let subjects = subjects_of(alloc, graph, query, by)?;
     for one in &audit(alloc, &subjects, &by.exceptions, &by.licences)? {
         let Some(index) = graph.order.get(one.place) else {
             continue;

@@ -4,11 +4,11 @@
 
 use crate::dates::day_of;
 use cargo_platform::shown_text;
-use graph_queries::asked::{Asked, Made};
 use graph_queries::classes::{Class, classes_at};
 use graph_queries::graph::Graph;
 use graph_queries::lines::{joined_names, shown, shown_count};
 use graph_queries::packages::{Reached, count_present, kinds_reached};
+use graph_queries::query::{GraphQuery, Made};
 use html_pages::Page;
 use known_targets::{RUSTC_VERSION, TargetSet};
 use std::alloc::{AllocError, Global};
@@ -59,11 +59,11 @@ const HEAD: &str = "</title>\n\
 pub fn page_of(
     alloc: Global,
     graph: &Graph<'_>,
-    asked: &Asked<'_>,
+    query: &GraphQuery<'_>,
     made: Made<'_>,
     reported: &[Option<&'static str>],
 ) -> Result<String, AllocError> {
-    let classes = classes_at(alloc, graph, asked)?;
+    let classes = classes_at(alloc, graph, query)?;
     let mut page = Page::new(alloc);
     add_markup(&mut page, START)?;
     push_title(&mut page, alloc, graph)?;
@@ -71,14 +71,14 @@ pub fn page_of(
     push_title(&mut page, alloc, graph)?;
     add_markup(&mut page, "</h1>\n")?;
     push_made(&mut page, alloc, made)?;
-    push_summary(&mut page, alloc, graph, asked)?;
-    push_legend(&mut page, alloc, &classes, asked)?;
-    push_head(&mut page, alloc, graph, &classes, asked)?;
-    for row in &rows_of(alloc, graph, asked, reported)? {
+    push_summary(&mut page, alloc, graph, query)?;
+    push_legend(&mut page, alloc, &classes, query)?;
+    push_head(&mut page, alloc, graph, &classes, query)?;
+    for row in &rows_of(alloc, graph, query, reported)? {
         add_markup(&mut page, "<tr>")?;
-        push_package(&mut page, alloc, graph, row, asked)?;
+        push_package(&mut page, alloc, graph, row, query)?;
         push_licence(&mut page, alloc, graph, row)?;
-        push_features(&mut page, alloc, graph, row, asked)?;
+        push_features(&mut page, alloc, graph, row, query)?;
         push_dots(&mut page, graph.present(row.index), &classes)?;
         add_markup(&mut page, "</tr>\n")?;
     }
@@ -139,8 +139,8 @@ fn push_number(page: &mut Page, alloc: Global, number: usize) -> Result<(), Allo
 }
 
 /// Returns the source of the targets: the name of a file, or the release of rustc.
-fn source_of(alloc: Global, asked: &Asked<'_>) -> Result<String, AllocError> {
-    match asked.groups {
+fn source_of(alloc: Global, query: &GraphQuery<'_>) -> Result<String, AllocError> {
+    match query.groups {
         Some(groups) => String::from_str(alloc, groups.file()),
         None => format!(in alloc; "rustc {RUSTC_VERSION}"),
     }
@@ -151,12 +151,12 @@ fn push_summary(
     page: &mut Page,
     alloc: Global,
     graph: &Graph<'_>,
-    asked: &Asked<'_>,
+    query: &GraphQuery<'_>,
 ) -> Result<(), AllocError> {
     let all = graph.order.len();
-    let count = count_present(graph, asked);
-    let targets = shown_count(alloc, asked.count)?;
-    let source = source_of(alloc, asked)?;
+    let count = count_present(graph, query);
+    let targets = shown_count(alloc, query.count)?;
+    let source = source_of(alloc, query)?;
     let text = format!(in alloc;
         "{count} of {all} packages are in the build, on some of {targets} of {source}."
     )?;
@@ -173,7 +173,7 @@ fn push_legend(
     page: &mut Page,
     alloc: Global,
     classes: &[Class],
-    asked: &Asked<'_>,
+    query: &GraphQuery<'_>,
 ) -> Result<(), AllocError> {
     add_markup(page, "<details>\n<summary>Classes of targets: ")?;
     push_number(page, alloc, classes.len())?;
@@ -184,7 +184,7 @@ fn push_legend(
          </thead>\n<tbody>\n",
     )?;
     for class in classes {
-        push_class(page, alloc, class, asked)?;
+        push_class(page, alloc, class, query)?;
     }
     add_markup(page, "</tbody>\n</table></div>\n</details>\n")
 }
@@ -194,7 +194,7 @@ fn push_class(
     page: &mut Page,
     alloc: Global,
     class: &Class,
-    asked: &Asked<'_>,
+    query: &GraphQuery<'_>,
 ) -> Result<(), AllocError> {
     add_markup(page, "<tr id=\"class-")?;
     push_number(page, alloc, class.number)?;
@@ -206,10 +206,10 @@ fn push_class(
         add_text(page, condition.as_str())?;
     }
     add_markup(page, "</code></td><td>")?;
-    let count = shown_count(alloc, asked.count_of(class.targets))?;
+    let count = shown_count(alloc, query.count_of(class.targets))?;
     add_text(page, count.as_str())?;
     add_markup(page, ": <code>")?;
-    let names = joined_names(alloc, class.targets, asked)?;
+    let names = joined_names(alloc, class.targets, query)?;
     add_text(page, names.as_str())?;
     add_markup(page, "</code></td></tr>\n")
 }
@@ -219,9 +219,9 @@ fn push_class_head(
     page: &mut Page,
     alloc: Global,
     class: &Class,
-    asked: &Asked<'_>,
+    query: &GraphQuery<'_>,
 ) -> Result<(), AllocError> {
-    let count = shown_count(alloc, asked.count_of(class.targets))?;
+    let count = shown_count(alloc, query.count_of(class.targets))?;
     add_markup(page, "<th class=\"class\" scope=\"col\"><a href=\"#class-")?;
     push_number(page, alloc, class.number)?;
     add_markup(page, "\" title=\"")?;
@@ -249,10 +249,10 @@ struct Row {
 fn rows_of(
     alloc: Global,
     graph: &Graph<'_>,
-    asked: &Asked<'_>,
+    query: &GraphQuery<'_>,
     reported: &[Option<&'static str>],
 ) -> Result<Vec<Row>, AllocError> {
-    let reached = kinds_reached(alloc, graph, asked)?;
+    let reached = kinds_reached(alloc, graph, query)?;
     let mut rows = Vec::new(alloc);
     for index in &graph.order {
         if let Some(reached) = reached.get(*index) {
@@ -272,7 +272,7 @@ fn push_head(
     alloc: Global,
     graph: &Graph<'_>,
     classes: &[Class],
-    asked: &Asked<'_>,
+    query: &GraphQuery<'_>,
 ) -> Result<(), AllocError> {
     add_markup(
         page,
@@ -287,7 +287,7 @@ fn push_head(
         )?;
     }
     for class in classes {
-        push_class_head(page, alloc, class, asked)?;
+        push_class_head(page, alloc, class, query)?;
     }
     add_markup(page, "</tr></thead>\n<tbody>\n")
 }
@@ -298,7 +298,7 @@ fn push_package(
     alloc: Global,
     graph: &Graph<'_>,
     row: &Row,
-    asked: &Asked<'_>,
+    query: &GraphQuery<'_>,
 ) -> Result<(), AllocError> {
     let Some(described) = graph.described(row.index) else {
         return Ok(());
@@ -318,7 +318,7 @@ fn push_package(
     add_markup(page, "</td><td>")?;
     add_markup(
         page,
-        graph.built(row.index, asked).sides().word().unwrap_or(""),
+        graph.built(row.index, query).sides().word().unwrap_or(""),
     )?;
     add_markup(page, "</td>")
 }
@@ -358,14 +358,14 @@ fn push_features(
     alloc: Global,
     graph: &Graph<'_>,
     row: &Row,
-    asked: &Asked<'_>,
+    query: &GraphQuery<'_>,
 ) -> Result<(), AllocError> {
     if graph.features.is_none() {
         return Ok(());
     }
     add_markup(page, "<td>")?;
     let mut is_first = true;
-    for name in graph.features_on(alloc, row.index, asked)? {
+    for name in graph.features_on(alloc, row.index, query)? {
         if !is_first {
             add_markup(page, ", ")?;
         }

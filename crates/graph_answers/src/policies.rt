@@ -1,8 +1,8 @@
 //! `--policy`: the arguments that a policy stands for, and its table of licences.
 
-use crate::asked::{Requested, Words};
+use crate::query::{GraphArguments, Requested};
 use cargo_platform::{shown_start, shown_text};
-use diagnostics::Weight;
+use diagnostics::LintLevel;
 use key_answers::answer::Refusal;
 use known_targets::{KnownTarget, RUSTC_VERSION};
 use licence_audits::PackageSpec;
@@ -46,7 +46,7 @@ fn unknown_targets(
             let message = format!(in alloc;
                 "no target that rustc {RUSTC_VERSION} knows is named `{shown}`{meant}"
             )?;
-            let rendered = source.report(alloc, Weight::Error, *at, message)?;
+            let rendered = source.report(alloc, LintLevel::Error, *at, message)?;
             text.push_str(rendered.as_str())?;
         }
     }
@@ -55,8 +55,11 @@ fn unknown_targets(
 
 /// Reads the policy of the arguments, if there is one. Refuses one with an error, and a target that rustc does not know
 /// if the targets of the policy are used.
-pub fn policy_of(alloc: Global, words: &Words<'_>) -> Result<Option<GivenPolicy>, Refusal> {
-    let Some((file, text)) = words.policy else {
+pub fn policy_of(
+    alloc: Global,
+    arguments: &GraphArguments<'_>,
+) -> Result<Option<GivenPolicy>, Refusal> {
+    let Some((file, text)) = arguments.policy else {
         return Ok(None);
     };
     let file = shown_text(alloc, file)?;
@@ -71,7 +74,7 @@ pub fn policy_of(alloc: Global, words: &Words<'_>) -> Result<Option<GivenPolicy>
         source,
         diagnostics: _,
     } = policy;
-    if words.targets.is_empty() && words.facts_of.is_none() {
+    if arguments.targets.is_empty() && arguments.facts_of.is_none() {
         let unknown = unknown_targets(alloc, &graph, &source)?;
         if !unknown.is_empty() {
             return Err(Refusal::Unusable(unknown));
@@ -112,25 +115,25 @@ impl<'p> GraphNames<'p> {
 
 /// Returns the arguments with those that a policy with these targets and features stands for. Targets, dependency kinds
 /// and features of the command line replace those of the policy.
-pub fn words_by_policy<'p>(
-    words: &Words<'p>,
+pub fn arguments_by_policy<'p>(
+    arguments: &GraphArguments<'p>,
     targets: &'p [&'p str],
     features: &'p [&'p str],
     graph: &GraphTable,
     includes_dev: bool,
-) -> Words<'p> {
-    let targets = if words.targets.is_empty() {
+) -> GraphArguments<'p> {
+    let targets = if arguments.targets.is_empty() {
         targets
     } else {
-        words.targets
+        arguments.targets
     };
     let has_dev = includes_dev && !graph.excludes_dev;
-    let edges = words.edges.unwrap_or(if has_dev {
+    let edges = arguments.edges.unwrap_or(if has_dev {
         "normal,build,dev"
     } else {
         "normal,build"
     });
-    let given = words.requested;
+    let given = arguments.requested;
     let requested = if given.features.is_empty() && !given.no_default && !given.all_features {
         Requested {
             resolver: given.resolver,
@@ -141,10 +144,10 @@ pub fn words_by_policy<'p>(
     } else {
         given
     };
-    Words {
+    GraphArguments {
         targets,
         edges: Some(edges),
         requested,
-        ..*words
+        ..*arguments
     }
 }

@@ -4,7 +4,7 @@ use crate::licences::Audit;
 use crate::lines::push;
 use crate::policies::AuditPolicy;
 use cargo_platform::shown_start;
-use diagnostics::Weight;
+use diagnostics::LintLevel;
 use key_answers::answer::{Answer, Status};
 use licence_audits::{Subject, is_unused_entry, is_unused_exception};
 use licence_policies::UnusedLevel;
@@ -13,12 +13,12 @@ use spdx_expressions::Licence;
 use std::alloc::{AllocError, Global};
 use std::slice;
 
-/// Returns the weight of a diagnostic of this level, or `None` if there is none.
-fn weight_of(level: UnusedLevel) -> Option<Weight> {
+/// Returns the level of the diagnostic, or `None` if none is reported.
+fn lint_level(level: UnusedLevel) -> Option<LintLevel> {
     match level {
         UnusedLevel::Allow => None,
-        UnusedLevel::Warn => Some(Weight::Warning),
-        UnusedLevel::Deny => Some(Weight::Error),
+        UnusedLevel::Warn => Some(LintLevel::Warning),
+        UnusedLevel::Deny => Some(LintLevel::Error),
     }
 }
 
@@ -27,15 +27,15 @@ fn report_entry(
     answer: &mut Answer,
     alloc: Global,
     policy: &AuditPolicy,
-    weight: Weight,
+    level: LintLevel,
     at: Option<Location>,
     message: &str,
 ) -> Result<(), AllocError> {
-    if weight == Weight::Error {
+    if level == LintLevel::Error {
         answer.raise(Status::Found);
     }
     let message = String::from_str(alloc, message)?;
-    let text = policy.source.report(alloc, weight, at, message)?;
+    let text = policy.source.report(alloc, level, at, message)?;
     push(&mut answer.errors, text.as_str())
 }
 
@@ -47,13 +47,13 @@ fn report_licences(
     licences: &[Licence],
     subjects: &[Subject<'_>],
 ) -> Result<(), AllocError> {
-    let Some(weight) = weight_of(policy.table.unused_licences) else {
+    let Some(level) = lint_level(policy.table.unused_licences) else {
         return Ok(());
     };
     for (licence, at) in licences.iter().zip(policy.table.allowed_at.iter()) {
         if is_unused_entry(alloc, slice::from_ref(licence), subjects)? {
             let message = "no package has this licence";
-            report_entry(answer, alloc, policy, weight, *at, message)?;
+            report_entry(answer, alloc, policy, level, *at, message)?;
         }
     }
     Ok(())
@@ -67,7 +67,7 @@ fn report_exceptions(
     audit: &Audit<'_>,
     subjects: &[Subject<'_>],
 ) -> Result<(), AllocError> {
-    let Some(weight) = weight_of(policy.table.unused_exceptions) else {
+    let Some(level) = lint_level(policy.table.unused_exceptions) else {
         return Ok(());
     };
     for (exception, at) in audit
@@ -77,7 +77,7 @@ fn report_exceptions(
     {
         if is_unused_exception(alloc, exception, subjects)? {
             let message = "no package needs this exception";
-            report_entry(answer, alloc, policy, weight, *at, message)?;
+            report_entry(answer, alloc, policy, level, *at, message)?;
         }
     }
     Ok(())

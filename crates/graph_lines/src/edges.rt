@@ -2,11 +2,11 @@
 
 use crate::origins::{Origin, origins_at};
 use cargo_platform::{CfgExpr, Platform};
-use graph_queries::asked::Asked;
 use graph_queries::edges::{Edge, edges_followed};
 use graph_queries::graph::Graph;
 use graph_queries::lines::{kind_word, push, shown_condition, shown_targets};
 use graph_queries::origins::origins_of;
+use graph_queries::query::GraphQuery;
 use key_answers::answer::{Answer, Status};
 use key_answers::json_lines;
 use key_answers::targets::At;
@@ -70,27 +70,27 @@ enum Group {
 pub fn show_edges(
     alloc: Global,
     graph: &Graph<'_>,
-    asked: &Asked<'_>,
+    query: &GraphQuery<'_>,
 ) -> Result<Answer, AllocError> {
     let mut answer = Answer::of(alloc, String::new(alloc), Status::Fine);
-    let finder = Finder::of(alloc, asked.selection(), asked.host, Vec::new(alloc))?;
+    let finder = Finder::of(alloc, query.selection(), query.host, Vec::new(alloc))?;
     let mut count: usize = 0;
     for from in &graph.order {
-        let edges = edges_followed(alloc, graph, *from, asked.kinds)?;
+        let edges = edges_followed(alloc, graph, *from, query.kinds)?;
         let groups = Groups::of(alloc, &edges)?;
         for i in 0..edges.len() {
             let edge = &edges[i];
             count = count.saturating_add(1);
-            if asked.json {
-                let mut line = line_of(alloc, graph, edge, &finder, asked)?;
+            if query.json {
+                let mut line = line_of(alloc, graph, edge, &finder, query)?;
                 line.group = groups.at(i);
                 json_lines::push_spaced_line(&mut answer.output, alloc, &line)?;
             } else {
-                push_line(&mut answer.output, alloc, graph, edge, asked)?;
+                push_line(&mut answer.output, alloc, graph, edge, query)?;
             }
         }
     }
-    if !asked.json {
+    if !query.json {
         let line = format!(in alloc; "{count} edges\n")?;
         push(&mut answer.errors, line.as_str())?;
     }
@@ -115,13 +115,13 @@ fn push_line(
     alloc: Global,
     graph: &Graph<'_>,
     edge: &Edge<'_>,
-    asked: &Asked<'_>,
+    query: &GraphQuery<'_>,
 ) -> Result<(), AllocError> {
     let from = graph.shown(alloc, edge.from)?;
     let to = graph.shown(alloc, edge.to)?;
     let kind = shown_kind(alloc, edge)?;
-    let followed = graph.followed(edge.from, edge.place, asked);
-    let targets = shown_targets(alloc, followed.targets(), asked)?;
+    let followed = graph.followed(edge.from, edge.place, query);
+    let targets = shown_targets(alloc, followed.targets(), query)?;
     let note = followed.sides().note();
     let line = format!(in alloc; "{from} -> {to}, {kind}{note}: {targets}\n")?;
     push(text, line.as_str())
@@ -156,22 +156,22 @@ fn line_of<'g, 'c, 'a>(
     graph: &Graph<'g>,
     edge: &Edge<'g>,
     finder: &Finder<'_>,
-    asked: &Asked<'a>,
+    query: &GraphQuery<'a>,
 ) -> Result<EdgeLine<'g, 'c, 'a>, AllocError> {
-    let followed = graph.followed(edge.from, edge.place, asked);
+    let followed = graph.followed(edge.from, edge.place, query);
     let targets = followed.targets();
     let step = step_of(alloc, graph, edge)?;
-    let leading = origins_of(alloc, graph, (edge.from, edge.place), followed, asked)?;
+    let leading = origins_of(alloc, graph, (edge.from, edge.place), followed, query)?;
     Ok(EdgeLine {
         from: step.from,
         to: step.to,
         name: step.name,
         kind: step.kind,
         condition: step.condition,
-        targets: asked.count_of(targets),
-        at: asked.at(alloc, targets)?,
+        targets: query.count_of(targets),
+        at: query.at(alloc, targets)?,
         side: followed.sides().word(),
-        sides: origins_at(alloc, &leading, targets, asked)?,
+        sides: origins_at(alloc, &leading, targets, query)?,
         simple: smaller_condition(alloc, edge, finder)?,
         group: None,
     })

@@ -1,10 +1,10 @@
 //! `--show features`: the features of each package that are on, and the targets on which they are on.
 
 use graph_queries::Features;
-use graph_queries::asked::Asked;
 use graph_queries::graph::Graph;
 use graph_queries::lines::{push, shown, shown_targets};
 use graph_queries::packages::name_and_version;
+use graph_queries::query::GraphQuery;
 use graph_queries::sides::{is_selected, side_note, side_word};
 use key_answers::answer::{Answer, Status};
 use key_answers::json_lines;
@@ -45,9 +45,9 @@ fn push_on<'f>(
     features: &Features<'f>,
     index: usize,
     side: Side,
-    asked: &Asked<'_>,
+    query: &GraphQuery<'_>,
 ) -> Result<(), AllocError> {
-    if !is_selected(asked.side, side) {
+    if !is_selected(query.side, side) {
         return Ok(());
     }
     let Some(manifest) = features.declarations.manifest(index) else {
@@ -55,7 +55,7 @@ fn push_on<'f>(
     };
     for i in 0..manifest.features.len() {
         let targets = features.resolution.with_feature(index, side, i);
-        let targets = targets.intersection(asked.targets);
+        let targets = targets.intersection(query.targets);
         if !targets.is_empty() {
             found.push(On {
                 index,
@@ -72,7 +72,7 @@ fn push_on<'f>(
 pub fn show_features(
     alloc: Global,
     graph: &Graph<'_>,
-    asked: &Asked<'_>,
+    query: &GraphQuery<'_>,
 ) -> Result<Answer, AllocError> {
     let mut answer = Answer::of(alloc, String::new(alloc), Status::Fine);
     let Some(features) = &graph.features else {
@@ -80,13 +80,13 @@ pub fn show_features(
     };
     for i in &graph.order {
         let mut found = Vec::new(alloc);
-        push_on(&mut found, features, *i, Side::Target, asked)?;
-        push_on(&mut found, features, *i, Side::Host, asked)?;
+        push_on(&mut found, features, *i, Side::Target, query)?;
+        push_on(&mut found, features, *i, Side::Host, query)?;
         for on in &found {
-            if asked.json {
-                push_object(&mut answer.output, alloc, graph, on, asked)?;
+            if query.json {
+                push_object(&mut answer.output, alloc, graph, on, query)?;
             } else {
-                push_line(&mut answer.output, alloc, graph, on, asked)?;
+                push_line(&mut answer.output, alloc, graph, on, query)?;
             }
         }
     }
@@ -99,11 +99,11 @@ fn push_line(
     alloc: Global,
     graph: &Graph<'_>,
     on: &On<'_>,
-    asked: &Asked<'_>,
+    query: &GraphQuery<'_>,
 ) -> Result<(), AllocError> {
     let package = graph.shown(alloc, on.index)?;
     let name = shown(alloc, on.name)?;
-    let targets = shown_targets(alloc, on.targets, asked)?;
+    let targets = shown_targets(alloc, on.targets, query)?;
     let note = side_note(on.side);
     let line = format!(in alloc; "{package} {name}{note}: {targets}\n")?;
     push(text, line.as_str())
@@ -115,7 +115,7 @@ fn push_object(
     alloc: Global,
     graph: &Graph<'_>,
     on: &On<'_>,
-    asked: &Asked<'_>,
+    query: &GraphQuery<'_>,
 ) -> Result<(), AllocError> {
     let Some(described) = graph.described(on.index) else {
         return Ok(());
@@ -125,8 +125,8 @@ fn push_object(
         id: described.id,
         feature: on.name,
         side: side_word(on.side),
-        targets: asked.count_of(on.targets),
-        at: asked.at(alloc, on.targets)?,
+        targets: query.count_of(on.targets),
+        at: query.at(alloc, on.targets)?,
     };
     json_lines::push_spaced_line(text, alloc, &line)
 }

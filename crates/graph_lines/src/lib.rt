@@ -15,8 +15,8 @@ mod why;
 use all::show_all;
 use edges::show_edges;
 use features::show_features;
-use graph_queries::asked::{Asked, Show};
 use graph_queries::graph::Graph;
+use graph_queries::query::{GraphQuery, Show};
 use key_answers::answer::Answer;
 pub use packages::package_lines;
 use packages::show_packages;
@@ -31,15 +31,15 @@ pub fn show(
     alloc: Global,
     file: &str,
     graph: &Graph<'_>,
-    asked: &Asked<'_>,
+    query: &GraphQuery<'_>,
 ) -> Result<Answer, AllocError> {
-    match asked.show {
-        Show::Packages => show_packages(alloc, graph, asked),
-        Show::Edges => show_edges(alloc, graph, asked),
-        Show::Targets => show_targets(alloc, graph, asked),
-        Show::Why => show_why(alloc, file, graph, asked),
-        Show::Features => show_features(alloc, graph, asked),
-        Show::Unified => show_unified(alloc, graph, asked),
-        Show::All => show_all(alloc, graph, asked),
+    match query.show {
+        Show::Packages => show_packages(alloc, graph, query),
+        Show::Edges => show_edges(alloc, graph, query),
+        Show::Targets => show_targets(alloc, graph, query),
+        Show::Why => show_why(alloc, file, graph, query),
+        Show::Features => show_features(alloc, graph, query),
+        Show::Unified => show_unified(alloc, graph, query),
+        Show::All => show_all(alloc, graph, query),
     }
 }

@@ -1,7 +1,7 @@
 //! The sides from which a dependency leads, in lines of JSON.
 
-use graph_queries::asked::Asked;
 use graph_queries::origins::Leading;
+use graph_queries::query::GraphQuery;
 use graph_queries::sides::side_word;
 use key_answers::targets::At;
 use known_targets::TargetSet;
@@ -29,7 +29,7 @@ pub fn origins_at<'a>(
     alloc: Global,
     leading: &[Leading],
     all: TargetSet,
-    asked: &Asked<'a>,
+    query: &GraphQuery<'a>,
 ) -> Result<Vec<Origin<'a>>, AllocError> {
     let mut origins = Vec::new(alloc);
     for from in leading {
@@ -40,8 +40,8 @@ pub fn origins_at<'a>(
             at: None,
         };
         if !from.targets.equals(all) {
-            origin.targets = Some(asked.count_of(from.targets));
-            origin.at = Some(asked.at(alloc, from.targets)?);
+            origin.targets = Some(query.count_of(from.targets));
+            origin.at = Some(query.at(alloc, from.targets)?);
         }
         origins.push(origin)?;
     }

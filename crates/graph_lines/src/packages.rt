@@ -3,10 +3,10 @@
 use crate::reasons::{LeftOut, left_out_of, shown_reasons};
 use cargo_metadata::Metadata;
 use cargo_metadata::graphs::Linked;
-use graph_queries::asked::Asked;
 use graph_queries::graph::Graph;
 use graph_queries::lines::{push, shown_targets};
 use graph_queries::packages::{Reached, count_present, kinds_reached, name_and_version};
+use graph_queries::query::GraphQuery;
 use graph_queries::reasons::{Reason, Reasons};
 use key_answers::answer::{Answer, Status};
 use key_answers::json_lines;
@@ -54,11 +54,11 @@ struct Listed {
 fn listed_of(
     alloc: Global,
     graph: &Graph<'_>,
-    asked: &Asked<'_>,
+    query: &GraphQuery<'_>,
 ) -> Result<Vec<Listed>, AllocError> {
     let reasons = Reasons::of(alloc, graph)?;
-    let reached = if asked.json {
-        kinds_reached(alloc, graph, asked)?
+    let reached = if query.json {
+        kinds_reached(alloc, graph, query)?
     } else {
         Vec::new(alloc)
     };
@@ -68,7 +68,7 @@ fn listed_of(
             index: *i,
             reached: reached.get(*i).copied(),
             left_out: match &reasons {
-                Some(reasons) => Some(reasons.at(alloc, *i, asked)?),
+                Some(reasons) => Some(reasons.at(alloc, *i, query)?),
                 None => None,
             },
         })?;
@@ -80,18 +80,18 @@ fn listed_of(
 pub fn show_packages(
     alloc: Global,
     graph: &Graph<'_>,
-    asked: &Asked<'_>,
+    query: &GraphQuery<'_>,
 ) -> Result<Answer, AllocError> {
     let mut answer = Answer::of(alloc, String::new(alloc), Status::Fine);
-    for listed in &listed_of(alloc, graph, asked)? {
-        if asked.json {
-            push_object(&mut answer.output, alloc, graph, listed, asked)?;
+    for listed in &listed_of(alloc, graph, query)? {
+        if query.json {
+            push_object(&mut answer.output, alloc, graph, listed, query)?;
         } else {
-            push_line(&mut answer.output, alloc, graph, listed, asked)?;
+            push_line(&mut answer.output, alloc, graph, listed, query)?;
         }
     }
-    if !asked.json {
-        let count = count_present(graph, asked);
+    if !query.json {
+        let count = count_present(graph, query);
         let all = graph.order.len();
         let line = format!(in alloc; "{count} of {all} packages\n")?;
         push(&mut answer.errors, line.as_str())?;
@@ -108,9 +108,9 @@ pub fn package_lines<'a>(
     linked: Linked<'a>,
     host: Option<KnownTarget>,
 ) -> Result<String, AllocError> {
-    let asked = Asked::packages_on(host);
-    let graph = Graph::of(alloc, metadata, linked, &asked)?;
-    let answer = show_packages(alloc, &graph, &asked)?;
+    let query = GraphQuery::packages_on(host);
+    let graph = Graph::of(alloc, metadata, linked, &query)?;
+    let answer = show_packages(alloc, &graph, &query)?;
     Ok(answer.output)
 }
 
@@ -120,12 +120,12 @@ fn push_line(
     alloc: Global,
     graph: &Graph<'_>,
     listed: &Listed,
-    asked: &Asked<'_>,
+    query: &GraphQuery<'_>,
 ) -> Result<(), AllocError> {
     let package = graph.shown(alloc, listed.index)?;
-    let built = graph.built(listed.index, asked);
-    let targets = shown_targets(alloc, built.targets(), asked)?;
-    let reasons = shown_reasons(alloc, &listed.left_out, asked)?;
+    let built = graph.built(listed.index, query);
+    let targets = shown_targets(alloc, built.targets(), query)?;
+    let reasons = shown_reasons(alloc, &listed.left_out, query)?;
     let note = built.sides().note();
     let line = format!(in alloc; "{package}{note}: {targets}{reasons}\n")?;
     push(text, line.as_str())
@@ -137,26 +137,26 @@ fn push_object(
     alloc: Global,
     graph: &Graph<'_>,
     listed: &Listed,
-    asked: &Asked<'_>,
+    query: &GraphQuery<'_>,
 ) -> Result<(), AllocError> {
     let Some(described) = graph.described(listed.index) else {
         return Ok(());
     };
-    let built = graph.built(listed.index, asked);
+    let built = graph.built(listed.index, query);
     let targets = built.targets();
     let line = PackageLine {
         package: name_and_version(alloc, described)?,
         id: described.id,
         license: described.license,
-        targets: asked.count_of(targets),
-        at: asked.at(alloc, targets)?,
+        targets: query.count_of(targets),
+        at: query.at(alloc, targets)?,
         side: built.sides().word(),
         kinds: match listed.reached {
             Some(reached) => reached.kinds(alloc)?,
             None => Vec::new(alloc),
         },
         proc_macro: described.is_macro,
-        left_out: left_out_of(alloc, &listed.left_out, asked)?,
+        left_out: left_out_of(alloc, &listed.left_out, query)?,
     };
     json_lines::push_spaced_line(text, alloc, &line)
 }

@@ -1,7 +1,7 @@
 //! The reasons why packages are left out, as they are printed.
 
-use graph_queries::asked::Asked;
 use graph_queries::lines::{push, shown_targets};
+use graph_queries::query::GraphQuery;
 use graph_queries::reasons::Reason;
 use key_answers::targets::At;
 use known_targets::TargetSet;
@@ -12,7 +12,7 @@ use std::alloc::{AllocError, Global};
 pub fn shown_reasons(
     alloc: Global,
     reasons: &Option<Vec<(Reason, TargetSet)>>,
-    asked: &Asked<'_>,
+    query: &GraphQuery<'_>,
 ) -> Result<String, AllocError> {
     let mut text = String::new(alloc);
     let Some(reasons) = reasons else {
@@ -20,7 +20,7 @@ pub fn shown_reasons(
     };
     for (reason, targets) in reasons {
         let reason = reason.text;
-        let targets = shown_targets(alloc, *targets, asked)?;
+        let targets = shown_targets(alloc, *targets, query)?;
         let part = format!(in alloc; "; not at {targets}: {reason}")?;
         push(&mut text, part.as_str())?;
     }
@@ -42,7 +42,7 @@ pub struct LeftOut<'a> {
 pub fn left_out_of<'a>(
     alloc: Global,
     reasons: &Option<Vec<(Reason, TargetSet)>>,
-    asked: &Asked<'a>,
+    query: &GraphQuery<'a>,
 ) -> Result<Option<Vec<LeftOut<'a>>>, AllocError> {
     let Some(reasons) = reasons else {
         return Ok(None);
@@ -51,8 +51,8 @@ pub fn left_out_of<'a>(
     for (reason, targets) in reasons {
         left_out.push(LeftOut {
             reason: reason.word,
-            targets: asked.count_of(*targets),
-            at: asked.at(alloc, *targets)?,
+            targets: query.count_of(*targets),
+            at: query.at(alloc, *targets)?,
         })?;
     }
     Ok(Some(left_out))

@@ -1,10 +1,10 @@
 //! `--show targets`: the classes of targets that no package distinguishes, and the packages of each class.
 
 use cargo_platform::shown_text;
-use graph_queries::asked::Asked;
 use graph_queries::classes::{Class, classes_at};
 use graph_queries::graph::Graph;
 use graph_queries::lines::{joined_names, push, push_comma, shown_count};
+use graph_queries::query::GraphQuery;
 use key_answers::answer::{Answer, Status};
 use key_answers::json_lines;
 use key_answers::targets::At;
@@ -31,18 +31,18 @@ struct ClassLine<'g, 'c, 'a> {
 pub fn show_targets(
     alloc: Global,
     graph: &Graph<'_>,
-    asked: &Asked<'_>,
+    query: &GraphQuery<'_>,
 ) -> Result<Answer, AllocError> {
     let mut answer = Answer::of(alloc, String::new(alloc), Status::Fine);
-    let classes = classes_at(alloc, graph, asked)?;
+    let classes = classes_at(alloc, graph, query)?;
     for class in &classes {
-        if asked.json {
-            push_object(&mut answer.output, alloc, graph, class, asked)?;
+        if query.json {
+            push_object(&mut answer.output, alloc, graph, class, query)?;
         } else {
-            push_line(&mut answer.output, alloc, class, asked)?;
+            push_line(&mut answer.output, alloc, class, query)?;
         }
     }
-    if !asked.json {
+    if !query.json {
         push_table(&mut answer.output, alloc, graph, &classes)?;
         let count = classes.len();
         let line = format!(in alloc; "{count} classes\n")?;
@@ -56,11 +56,11 @@ fn push_line(
     text: &mut String,
     alloc: Global,
     class: &Class,
-    asked: &Asked<'_>,
+    query: &GraphQuery<'_>,
 ) -> Result<(), AllocError> {
     let number = class.number;
-    let count = shown_count(alloc, asked.count_of(class.targets))?;
-    let names = joined_names(alloc, class.targets, asked)?;
+    let count = shown_count(alloc, query.count_of(class.targets))?;
+    let names = joined_names(alloc, class.targets, query)?;
     let line = match &class.condition {
         Some(condition) => {
             let condition = shown_text(alloc, condition.as_str())?;
@@ -139,13 +139,13 @@ fn push_object(
     alloc: Global,
     graph: &Graph<'_>,
     class: &Class,
-    asked: &Asked<'_>,
+    query: &GraphQuery<'_>,
 ) -> Result<(), AllocError> {
     let line = ClassLine {
         class: class.number,
         condition: class.condition.as_ref().map(|text| text.as_str()),
-        targets: asked.count_of(class.targets),
-        at: asked.at(alloc, class.targets)?,
+        targets: query.count_of(class.targets),
+        at: query.at(alloc, class.targets)?,
         packages: ids_at(alloc, graph, class.targets)?,
     };
     json_lines::push_spaced_line(text, alloc, &line)

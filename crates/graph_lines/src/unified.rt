@@ -1,10 +1,10 @@
 //! `--show unified`: the packages that are built with different features, on different targets or for the host.
 
 use graph_queries::Features;
-use graph_queries::asked::Asked;
 use graph_queries::graph::Graph;
 use graph_queries::lines::{push, shown, shown_targets};
 use graph_queries::packages::name_and_version;
+use graph_queries::query::GraphQuery;
 use graph_queries::sides::{is_selected, side_note, side_word};
 use key_answers::answer::{Answer, Status};
 use key_answers::json_lines;
@@ -68,10 +68,10 @@ fn built_for<'a>(
     features: &Features<'a>,
     index: usize,
     side: Side,
-    asked: &Asked<'_>,
+    query: &GraphQuery<'_>,
 ) -> Result<Vec<Built<'a>>, AllocError> {
     let mut built = Vec::new(alloc);
-    if !is_selected(asked.side, side) {
+    if !is_selected(query.side, side) {
         return Ok(built);
     }
     let count = match features.declarations.manifest(index) {
@@ -84,7 +84,7 @@ fn built_for<'a>(
     }
     let used = features.resolution.used_on(index, side);
     for class in classes(alloc, &sets)? {
-        let targets = class.intersection(used).intersection(asked.targets);
+        let targets = class.intersection(used).intersection(query.targets);
         if !targets.is_empty() {
             built.push(Built {
                 index,
@@ -114,25 +114,25 @@ fn are_same(built: &[Built<'_>]) -> bool {
 pub fn show_unified(
     alloc: Global,
     graph: &Graph<'_>,
-    asked: &Asked<'_>,
+    query: &GraphQuery<'_>,
 ) -> Result<Answer, AllocError> {
     let mut answer = Answer::of(alloc, String::new(alloc), Status::Fine);
     let Some(features) = &graph.features else {
         return Ok(answer);
     };
     for i in &graph.order {
-        let mut built = built_for(alloc, features, *i, Side::Target, asked)?;
-        for one in built_for(alloc, features, *i, Side::Host, asked)? {
+        let mut built = built_for(alloc, features, *i, Side::Target, query)?;
+        for one in built_for(alloc, features, *i, Side::Host, query)? {
             built.push(one)?;
         }
         if are_same(&built) {
             continue;
         }
         for one in &built {
-            if asked.json {
-                push_object(&mut answer.output, alloc, graph, one, asked)?;
+            if query.json {
+                push_object(&mut answer.output, alloc, graph, one, query)?;
             } else {
-                push_line(&mut answer.output, alloc, graph, one, asked)?;
+                push_line(&mut answer.output, alloc, graph, one, query)?;
             }
         }
     }
@@ -145,10 +145,10 @@ fn push_line(
     alloc: Global,
     graph: &Graph<'_>,
     built: &Built<'_>,
-    asked: &Asked<'_>,
+    query: &GraphQuery<'_>,
 ) -> Result<(), AllocError> {
     let package = graph.shown(alloc, built.index)?;
-    let targets = shown_targets(alloc, built.targets, asked)?;
+    let targets = shown_targets(alloc, built.targets, query)?;
     let note = side_note(built.side);
     let begin = format!(in alloc; "{package}{note}: {targets}:")?;
     push(text, begin.as_str())?;
@@ -169,7 +169,7 @@ fn push_object(
     alloc: Global,
     graph: &Graph<'_>,
     built: &Built<'_>,
-    asked: &Asked<'_>,
+    query: &GraphQuery<'_>,
 ) -> Result<(), AllocError> {
     let Some(described) = graph.described(built.index) else {
         return Ok(());
@@ -179,8 +179,8 @@ fn push_object(
         id: described.id,
         side: side_word(built.side),
         features: &built.features,
-        targets: asked.count_of(built.targets),
-        at: asked.at(alloc, built.targets)?,
+        targets: query.count_of(built.targets),
+        at: query.at(alloc, built.targets)?,
     };
     json_lines::push_spaced_line(text, alloc, &line)
 }

@@ -3,12 +3,12 @@
 
 use crate::edges::{PathStep, shown_kind, step_of};
 use cargo_metadata::Package as Described;
-use graph_queries::asked::Asked;
 use graph_queries::classes::selected_classes;
 use graph_queries::edges::{Edge, edges_of};
 use graph_queries::graph::Graph;
 use graph_queries::lines::{joined_names, push, push_comma, shown_count};
 use graph_queries::packages::name_and_version;
+use graph_queries::query::GraphQuery;
 use key_answers::answer::{Answer, Status, answered, unusable};
 use key_answers::json_lines;
 use key_answers::printing::shown_name;
@@ -56,10 +56,10 @@ fn shortest_steps(
     graph: &Graph<'_>,
     index: usize,
     target: KnownTarget,
-    asked: &Asked<'_>,
+    query: &GraphQuery<'_>,
 ) -> Result<Option<Vec<Step>>, AllocError> {
     let packages = &graph.linked.packages;
-    let (kinds, host) = (asked.kinds, asked.host);
+    let (kinds, host) = (query.kinds, query.host);
     match graph.side {
         Some(side) => shortest_path_on(alloc, packages, kinds, host, target, (index, side)),
         None => shortest_path(alloc, packages, kinds, host, target, index),
@@ -71,11 +71,11 @@ fn ways_to(
     alloc: Global,
     graph: &Graph<'_>,
     index: usize,
-    asked: &Asked<'_>,
+    query: &GraphQuery<'_>,
 ) -> Result<Ways, AllocError> {
     let mut ways: Vec<Way> = Vec::new(alloc);
-    for target in graph.at(index, asked).iter() {
-        let Some(steps) = shortest_steps(alloc, graph, index, target, asked)? else {
+    for target in graph.at(index, query).iter() {
+        let Some(steps) = shortest_steps(alloc, graph, index, target, query)? else {
             continue;
         };
         let only = TargetSet::only(target);
@@ -102,33 +102,33 @@ pub fn show_why(
     alloc: Global,
     file: &str,
     graph: &Graph<'_>,
-    asked: &Asked<'_>,
+    query: &GraphQuery<'_>,
 ) -> Result<Answer, AllocError> {
     let mut answer = Answer::of(alloc, String::new(alloc), Status::Fine);
     let mut is_known = false;
-    let classes = if asked.json {
+    let classes = if query.json {
         Vec::new(alloc)
     } else {
-        selected_classes(alloc, graph, asked)?
+        selected_classes(alloc, graph, query)?
     };
     for i in &graph.order {
         match graph.described(*i) {
-            Some(described) if described.name == asked.of => {}
+            Some(described) if described.name == query.of => {}
             _ => continue,
         }
         is_known = true;
-        let ways = ways_to(alloc, graph, *i, asked)?;
-        if asked.json {
-            push_objects(&mut answer.output, alloc, graph, &ways, asked)?;
+        let ways = ways_to(alloc, graph, *i, query)?;
+        if query.json {
+            push_objects(&mut answer.output, alloc, graph, &ways, query)?;
         } else {
-            let lines = lines_of(alloc, graph, &ways, &classes, asked)?;
+            let lines = lines_of(alloc, graph, &ways, &classes, query)?;
             push(&mut answer.output, lines.as_str())?;
         }
     }
     if is_known {
         return Ok(answer);
     }
-    let name = shown_name(alloc, asked.of)?;
+    let name = shown_name(alloc, query.of)?;
     let reason = format!(in alloc; "no package of the graph is named {name}")?;
     answered(alloc, Err(unusable(alloc, file, reason.as_str())))
 }
@@ -152,12 +152,12 @@ fn shown_classes(
     alloc: Global,
     targets: TargetSet,
     classes: &[TargetSet],
-    asked: &Asked<'_>,
+    query: &GraphQuery<'_>,
 ) -> Result<String, AllocError> {
     let mut numbers = String::new(alloc);
     let mut is_part = false;
     for i in 0..classes.len() {
-        let class = classes[i].intersection(asked.targets);
+        let class = classes[i].intersection(query.targets);
         let common = class.intersection(targets);
         if common.is_empty() {
             continue;
@@ -177,18 +177,18 @@ fn shown_way(
     alloc: Global,
     targets: TargetSet,
     classes: &[TargetSet],
-    asked: &Asked<'_>,
+    query: &GraphQuery<'_>,
 ) -> Result<String, AllocError> {
-    if asked.are_all(targets) {
+    if query.are_all(targets) {
         return String::from_str(alloc, "all");
     }
-    let number = asked.count_of(targets);
+    let number = query.count_of(targets);
     let count = shown_count(alloc, number)?;
-    if asked.are_named && number <= MOST_NAMES {
-        let names = joined_names(alloc, targets, asked)?;
+    if query.are_named && number <= MOST_NAMES {
+        let names = joined_names(alloc, targets, query)?;
         return format!(in alloc; "{count}: {names}");
     }
-    let classes = shown_classes(alloc, targets, classes, asked)?;
+    let classes = shown_classes(alloc, targets, classes, query)?;
     format!(in alloc; "{count}: {classes}")
 }
 
@@ -198,7 +198,7 @@ fn lines_of(
     graph: &Graph<'_>,
     ways: &Ways,
     classes: &[TargetSet],
-    asked: &Asked<'_>,
+    query: &GraphQuery<'_>,
 ) -> Result<String, AllocError> {
     let package = graph.shown(alloc, ways.index)?;
     if ways.ways.is_empty() {
@@ -206,7 +206,7 @@ fn lines_of(
     }
     let mut text = String::new(alloc);
     for way in &ways.ways {
-        let targets = shown_way(alloc, way.targets, classes, asked)?;
+        let targets = shown_way(alloc, way.targets, classes, query)?;
         let line = format!(in alloc; "{package}: {targets}\n")?;
         push(&mut text, line.as_str())?;
         push_path(&mut text, alloc, graph, ways.index, way)?;
@@ -263,13 +263,13 @@ impl<'g, 'a> PathLine<'g, 'a> {
         described: &Described<'g>,
         targets: TargetSet,
         path: Option<Vec<PathStep<'g>>>,
-        asked: &Asked<'a>,
+        query: &GraphQuery<'a>,
     ) -> Result<PathLine<'g, 'a>, AllocError> {
         Ok(PathLine {
             package: name_and_version(alloc, described)?,
             id: described.id,
-            targets: asked.count_of(targets),
-            at: asked.at(alloc, targets)?,
+            targets: query.count_of(targets),
+            at: query.at(alloc, targets)?,
             path,
         })
     }
@@ -281,18 +281,18 @@ fn push_objects(
     alloc: Global,
     graph: &Graph<'_>,
     ways: &Ways,
-    asked: &Asked<'_>,
+    query: &GraphQuery<'_>,
 ) -> Result<(), AllocError> {
     let Some(described) = graph.described(ways.index) else {
         return Ok(());
     };
     if ways.ways.is_empty() {
-        let line = PathLine::of(alloc, described, TargetSet::none(), None, asked)?;
+        let line = PathLine::of(alloc, described, TargetSet::none(), None, query)?;
         return json_lines::push_spaced_line(text, alloc, &line);
     }
     for way in &ways.ways {
         let path = path_of(alloc, graph, way)?;
-        let line = PathLine::of(alloc, described, way.targets, Some(path), asked)?;
+        let line = PathLine::of(alloc, described, way.targets, Some(path), query)?;
         json_lines::push_spaced_line(text, alloc, &line)?;
     }
     Ok(())

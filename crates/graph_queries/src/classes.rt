@@ -1,8 +1,8 @@
 //! The classes of targets that no package distinguishes.
 
-use crate::asked::Asked;
 use crate::edges::edges_of;
 use crate::graph::Graph;
+use crate::query::GraphQuery;
 use cargo_platform::{Cfg, values_of};
 use known_targets::TargetSet;
 use known_targets::classes::classes;
@@ -40,7 +40,7 @@ fn first_of(set: TargetSet) -> usize {
 }
 
 /// Returns the facts that occur in the conditions of the graph, each once.
-fn asked_facts(alloc: Global, graph: &Graph<'_>) -> Result<Vec<Cfg>, AllocError> {
+fn queried_facts(alloc: Global, graph: &Graph<'_>) -> Result<Vec<Cfg>, AllocError> {
     let mut values = Vec::new(alloc);
     for i in 0..graph.linked.packages.len() {
         for edge in &edges_of(alloc, graph, i)? {
@@ -68,10 +68,10 @@ fn sets_of(alloc: Global, graph: &Graph<'_>) -> Result<Vec<TargetSet>, AllocErro
 pub fn selected_classes(
     alloc: Global,
     graph: &Graph<'_>,
-    asked: &Asked<'_>,
+    query: &GraphQuery<'_>,
 ) -> Result<Vec<TargetSet>, AllocError> {
     let mut sets = sets_of(alloc, graph)?;
-    sets.retain(|set| !set.intersection(asked.targets).is_empty());
+    sets.retain(|set| !set.intersection(query.targets).is_empty());
     Ok(sets)
 }
 
@@ -91,15 +91,15 @@ fn condition_of(
 pub fn classes_at(
     alloc: Global,
     graph: &Graph<'_>,
-    asked: &Asked<'_>,
+    query: &GraphQuery<'_>,
 ) -> Result<Vec<Class>, AllocError> {
-    let finder = Finder::of(alloc, asked.selection(), None, asked_facts(alloc, graph)?)?;
+    let finder = Finder::of(alloc, query.selection(), None, queried_facts(alloc, graph)?)?;
     let mut found = Vec::new(alloc);
-    for targets in selected_classes(alloc, graph, asked)? {
+    for targets in selected_classes(alloc, graph, query)? {
         found.push(Class {
             number: found.len().saturating_add(1),
             condition: condition_of(alloc, targets, &finder)?,
-            targets: targets.intersection(asked.targets),
+            targets: targets.intersection(query.targets),
         })?;
     }
     Ok(found)

@@ -1,7 +1,7 @@
 //! A graph of packages, with the targets on which each package is in the build.
 
-use crate::asked::Asked;
 use crate::lines::{shown, shown_package};
+use crate::query::GraphQuery;
 use crate::resolving::Features;
 use crate::sides::{BySide, is_selected};
 use cargo_metadata::graphs::Linked;
@@ -35,9 +35,9 @@ impl<'a> Graph<'a> {
         alloc: Global,
         metadata: Metadata<'a>,
         linked: Linked<'a>,
-        asked: &Asked<'_>,
+        query: &GraphQuery<'_>,
     ) -> Result<Graph<'a>, AllocError> {
-        let sets = present_packages(alloc, &linked.packages, asked.kinds, asked.host)?;
+        let sets = present_packages(alloc, &linked.packages, query.kinds, query.host)?;
         let order = in_order(alloc, &linked.described)?;
         let twins = twins_of(alloc, &linked.described, &order)?;
         Ok(Graph {
@@ -45,7 +45,7 @@ impl<'a> Graph<'a> {
             linked,
             workspace: None,
             sets,
-            side: asked.side,
+            side: query.side,
             order,
             twins,
             features: None,
@@ -53,8 +53,8 @@ impl<'a> Graph<'a> {
     }
 
     /// Returns the selected targets on which a package is in the build.
-    pub fn at(&self, index: usize, asked: &Asked<'_>) -> TargetSet {
-        self.built(index, asked).targets()
+    pub fn at(&self, index: usize, query: &GraphQuery<'_>) -> TargetSet {
+        self.built(index, query).targets()
     }
 
     /// Returns the targets on which a package is in the build, for a selected side.
@@ -64,12 +64,12 @@ impl<'a> Graph<'a> {
     }
 
     /// Returns the selected targets on which a package is in the build, for each selected side.
-    pub fn built(&self, index: usize, asked: &Asked<'_>) -> BySide {
+    pub fn built(&self, index: usize, query: &GraphQuery<'_>) -> BySide {
         let built = BySide {
             target: self.present_on(index, Side::Target),
             host: self.present_on(index, Side::Host),
         };
-        built.within(asked.targets)
+        built.within(query.targets)
     }
 
     /// Returns the targets on which a package is in the build for this side. There are none if it is not selected.
@@ -94,17 +94,23 @@ impl<'a> Graph<'a> {
 
     /// Returns the selected targets on which a dependency is followed, for each selected side to which it leads.
     /// `place` is its index among those of the package.
-    pub fn followed(&self, index: usize, place: usize, asked: &Asked<'_>) -> BySide {
+    pub fn followed(&self, index: usize, place: usize, query: &GraphQuery<'_>) -> BySide {
         let followed = BySide {
-            target: self.following_to(index, place, Side::Target, asked),
-            host: self.following_to(index, place, Side::Host, asked),
+            target: self.following_to(index, place, Side::Target, query),
+            host: self.following_to(index, place, Side::Host, query),
         };
-        followed.within(asked.targets)
+        followed.within(query.targets)
     }
 
     /// Returns the targets on which a dependency is followed to a package that is built for this side. There are none
     /// if it is not selected.
-    fn following_to(&self, index: usize, place: usize, side: Side, asked: &Asked<'_>) -> TargetSet {
+    fn following_to(
+        &self,
+        index: usize,
+        place: usize,
+        side: Side,
+        query: &GraphQuery<'_>,
+    ) -> TargetSet {
         if !is_selected(self.side, side) {
             return TargetSet::none();
         }
@@ -114,7 +120,7 @@ impl<'a> Graph<'a> {
         let packages = &self.linked.packages;
         match self.dependency(index, place) {
             Some(dependency) => {
-                self.sets.following_to(packages, asked.kinds, asked.host, index, &dependency, side)
+                self.sets.following_to(packages, query.kinds, query.host, index, &dependency, side)
             }
             None => TargetSet::none(),
         }
@@ -167,7 +173,7 @@ impl<'a> Graph<'a> {
         &self,
         alloc: Global,
         index: usize,
-        asked: &Asked<'_>,
+        query: &GraphQuery<'_>,
     ) -> Result<Vec<&'a str>, AllocError> {
         let mut names = Vec::new(alloc);
         let Some(features) = &self.features else {
@@ -179,7 +185,7 @@ impl<'a> Graph<'a> {
         for i in 0..manifest.features.len() {
             let target = self.feature_on(index, Side::Target, i);
             let targets = target.union(self.feature_on(index, Side::Host, i));
-            if !targets.intersection(asked.targets).is_empty() {
+            if !targets.intersection(query.targets).is_empty() {
                 names.push(manifest.features[i].name)?;
             }
         }

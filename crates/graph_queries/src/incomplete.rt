@@ -3,9 +3,7 @@
 use crate::lines::{shown, shown_package};
 use crate::refused::COMMAND;
 use cargo_features::Resolved;
-use declared_features::{
-    Asked as AskedFeatures, Declaring, Lacking, first_filtered, first_lacking,
-};
+use declared_features::{Declaring, Lacking, RequestedFeatures, first_filtered, first_lacking};
 use std::alloc::{AllocError, Global};
 
 /// Returns what lacks: the package, and its dependency by the name in its manifest.
@@ -43,9 +41,9 @@ pub fn lacking_reason<'a>(
     alloc: Global,
     graph: &Declaring<'_, 'a>,
     resolved: &Resolved,
-    asked: &AskedFeatures<'a>,
+    query: &RequestedFeatures<'a>,
 ) -> Result<Option<String>, AllocError> {
-    let Some(lacking) = first_lacking(alloc, graph, resolved, asked)? else {
+    let Some(lacking) = first_lacking(alloc, graph, resolved, query)? else {
         return Ok(None);
     };
     let lack = shown_lack(alloc, graph, &lacking)?;

@@ -2,7 +2,6 @@
 //! classes of targets that an answer is about.
 #![tactic(auto)]
 
-pub mod asked;
 pub mod classes;
 pub mod differences;
 pub mod edges;
@@ -12,6 +11,7 @@ pub mod lines;
 pub mod origins;
 pub mod packages;
 pub mod pairs;
+pub mod query;
 pub mod reading;
 pub mod reasons;
 pub mod refused;

@@ -1,6 +1,6 @@
 //! Parts of text output.
 
-use crate::asked::Asked;
+use crate::query::GraphQuery;
 use cargo_metadata::{Kind, Package as Described};
 use cargo_platform::{Platform, shown_start};
 use known_targets::TargetSet;
@@ -35,23 +35,23 @@ pub fn shown_package(alloc: Global, described: &Described<'_>) -> Result<String,
     format!(in alloc; "{name} {version}")
 }
 
-/// Formats targets: `nowhere` if there are none, `all` if these are the selected targets (see `Asked::are_all`), their
-/// names if targets were selected by name, and else their number.
+/// Formats targets: `nowhere` if there are none, `all` if these are the selected targets (see `GraphQuery::are_all`),
+/// their names if targets were selected by name, and else their number.
 pub fn shown_targets(
     alloc: Global,
     targets: TargetSet,
-    asked: &Asked<'_>,
+    query: &GraphQuery<'_>,
 ) -> Result<String, AllocError> {
     if targets.is_empty() {
         return String::from_str(alloc, "nowhere");
     }
-    if asked.are_all(targets) {
+    if query.are_all(targets) {
         return String::from_str(alloc, "all");
     }
-    if asked.are_named {
-        return joined_names(alloc, targets, asked);
+    if query.are_named {
+        return joined_names(alloc, targets, query);
     }
-    shown_count(alloc, asked.count_of(targets))
+    shown_count(alloc, query.count_of(targets))
 }
 
 /// Formats a number of targets.
@@ -67,10 +67,10 @@ pub fn shown_count(alloc: Global, count: usize) -> Result<String, AllocError> {
 pub fn joined_names(
     alloc: Global,
     targets: TargetSet,
-    asked: &Asked<'_>,
+    query: &GraphQuery<'_>,
 ) -> Result<String, AllocError> {
     let mut text = String::new(alloc);
-    for name in asked.names(alloc, targets)? {
+    for name in query.names(alloc, targets)? {
         let is_first = text.is_empty();
         push_comma(&mut text, is_first)?;
         let name = shown(alloc, name)?;

@@ -1,8 +1,8 @@
 //! The sides from which a dependency leads. A package that is built for both sides may need it for one of them alone,
 //! or on other targets for each.
 
-use crate::asked::Asked;
 use crate::graph::Graph;
+use crate::query::GraphQuery;
 use crate::sides::BySide;
 use cargo_features::{Claim, Dependency as Declared, Resolved};
 use known_targets::{KnownTarget, TargetSet};
@@ -79,7 +79,7 @@ pub fn origins_of(
     graph: &Graph<'_>,
     (index, place): (usize, usize),
     followed: BySide,
-    asked: &Asked<'_>,
+    query: &GraphQuery<'_>,
 ) -> Result<Vec<Leading>, AllocError> {
     let mut origins = Vec::new(alloc);
     let Some(dependency) = graph.dependency(index, place) else {
@@ -90,9 +90,9 @@ pub fn origins_of(
     let (mut target, mut host) = (followed.target, followed.host);
     if to.is_same(Side::Host) {
         let place = (index, place);
-        let needed = needed_for(graph, place, &dependency, Side::Target, asked.host);
+        let needed = needed_for(graph, place, &dependency, Side::Target, query.host);
         target = needed.intersection(followed.host);
-        let needed = needed_for(graph, place, &dependency, Side::Host, asked.host);
+        let needed = needed_for(graph, place, &dependency, Side::Host, query.host);
         host = needed.intersection(followed.host);
     }
     for (from, to, targets) in [(Side::Target, to, target), (Side::Host, Side::Host, host)] {

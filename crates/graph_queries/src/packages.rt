@@ -1,8 +1,8 @@
 //! What is known of each package of a graph: the dependency kinds that reach it, and how many are in the build.
 
-use crate::asked::Asked;
 use crate::graph::Graph;
 use crate::lines::{push, push_comma};
+use crate::query::GraphQuery;
 use cargo_metadata::Package as Described;
 use package_graphs::Kind;
 use std::alloc::{AllocError, Global};
@@ -47,7 +47,7 @@ impl Reached {
 pub fn kinds_reached(
     alloc: Global,
     graph: &Graph<'_>,
-    asked: &Asked<'_>,
+    query: &GraphQuery<'_>,
 ) -> Result<Vec<Reached>, AllocError> {
     let none = Reached {
         normal: false,
@@ -62,7 +62,7 @@ pub fn kinds_reached(
             let Some(to) = reached.get_mut(dependency.to) else {
                 continue;
             };
-            if graph.followed(i, j, asked).targets().is_empty() {
+            if graph.followed(i, j, query).targets().is_empty() {
                 continue;
             }
             match dependency.kind {
@@ -76,10 +76,10 @@ pub fn kinds_reached(
 }
 
 /// Returns the number of packages that are in the build on a selected target.
-pub fn count_present(graph: &Graph<'_>, asked: &Asked<'_>) -> usize {
+pub fn count_present(graph: &Graph<'_>, query: &GraphQuery<'_>) -> usize {
     let mut count: usize = 0;
     for i in &graph.order {
-        if !graph.at(*i, asked).is_empty() {
+        if !graph.at(*i, query).is_empty() {
             count = count.saturating_add(1);
         }
     }

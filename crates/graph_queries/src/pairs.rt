@@ -1,7 +1,7 @@
 //! The packages of two answers, each with its counterpart in the other one.
 
-use crate::asked::Asked;
 use crate::graph::Graph;
+use crate::query::GraphQuery;
 use std::alloc::{AllocError, Global};
 use std::collections::BTreeMap;
 
@@ -22,7 +22,7 @@ type Key<'d> = ((&'d str, &'d str), usize);
 fn packages_of<'d>(
     alloc: Global,
     graph: &Graph<'d>,
-    asked: &Asked<'_>,
+    query: &GraphQuery<'_>,
 ) -> Result<BTreeMap<Key<'d>, usize>, AllocError> {
     let mut found = BTreeMap::new(alloc);
     let mut last = ("", "");
@@ -31,7 +31,7 @@ fn packages_of<'d>(
         let Some(described) = graph.described(*index) else {
             continue;
         };
-        if graph.at(*index, asked).is_empty() {
+        if graph.at(*index, query).is_empty() {
             continue;
         }
         let package = (described.name, described.version);
@@ -102,10 +102,10 @@ pub fn pairs_of<'d>(
     alloc: Global,
     old: &Graph<'d>,
     new: &Graph<'d>,
-    asked: &Asked<'_>,
+    query: &GraphQuery<'_>,
 ) -> Result<Vec<Pair<'d>>, AllocError> {
-    let before = packages_of(alloc, old, asked)?;
-    let after = packages_of(alloc, new, asked)?;
+    let before = packages_of(alloc, old, query)?;
+    let after = packages_of(alloc, new, query)?;
     let mut keys = Vec::new(alloc);
     for (key, _) in &before {
         keys.push(*key)?;

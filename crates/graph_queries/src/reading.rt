@@ -1,8 +1,8 @@
 //! The graph of a document, which is parsed, read and linked, and rejected if no answer could be right.
 
-use crate::asked::Asked;
 use crate::graph::Graph;
 use crate::incomplete::filtered_reason;
+use crate::query::GraphQuery;
 use crate::refused::{depth_reason, document_reason, graph_reason};
 use crate::resolving::{Features, resolution_of};
 use crate::unsupported::unsupported_reason;
@@ -208,16 +208,16 @@ impl<'a> Input<'a> {
 pub fn graph_of<'a>(
     alloc: Global,
     input: Input<'a>,
-    asked: &Asked<'_>,
+    query: &GraphQuery<'_>,
 ) -> Result<Graph<'a>, Rejected> {
-    let resolution = resolution_of(alloc, &input, asked)?;
+    let resolution = resolution_of(alloc, &input, query)?;
     let Input {
         document,
         metadata,
         linked,
         declared,
     } = input;
-    let mut graph = Graph::of(alloc, metadata, linked, asked)?;
+    let mut graph = Graph::of(alloc, metadata, linked, query)?;
     graph.workspace = text_at(document, "workspace_root");
     if let (Some(resolution), Ok(declared)) = (resolution, declared) {
         graph.features = Some(Features {
@@ -236,8 +236,8 @@ pub fn graph_of<'a>(
 pub fn graph_in<'a>(
     alloc: Global,
     document: &'a Value,
-    asked: &Asked<'_>,
+    query: &GraphQuery<'_>,
 ) -> Result<Graph<'a>, Rejected> {
-    let input = Input::of(alloc, document, asked.packages)?;
-    graph_of(alloc, input, asked)
+    let input = Input::of(alloc, document, query.packages)?;
+    graph_of(alloc, input, query)
 }

@@ -1,7 +1,7 @@
 //! The rules of the feature resolver that leave out packages to which dependencies lead.
 
-use crate::asked::Asked;
 use crate::graph::Graph;
+use crate::query::GraphQuery;
 use crate::resolving::Features;
 use cargo_features::{Build, Dependency, Member, Package, used_packages};
 use known_targets::TargetSet;
@@ -16,22 +16,22 @@ pub struct Reason {
 
 const WEAK: Reason = Reason {
     word: "weak",
-    text: "a weak feature alone asks for it",
+    text: "only a weak feature enables it",
 };
 
 const TARGET: Reason = Reason {
     word: "target",
-    text: "a feature of another target asks for it",
+    text: "a feature of another target enables it",
 };
 
 const SIDE: Reason = Reason {
     word: "side",
-    text: "a feature of the other side, target or host, asks for it",
+    text: "a feature of the other side, target or host, enables it",
 };
 
 const DEV: Reason = Reason {
     word: "dev",
-    text: "dev-dependencies alone ask for it",
+    text: "only dev-dependencies enable it",
 };
 
 const SEVERAL: Reason = Reason {
@@ -41,13 +41,13 @@ const SEVERAL: Reason = Reason {
 
 const UNASKED: Reason = Reason {
     word: "unasked",
-    text: "features ask for it that are not asked here",
+    text: "a feature that is not requested enables it",
 };
 
 /// For each reason, in order, and for each package, the targets on which the package is left out for that reason.
 #[derive(Drop)]
 pub struct Reasons {
-    told: Vec<(Reason, Vec<TargetSet>)>,
+    reasons: Vec<(Reason, Vec<TargetSet>)>,
 }
 
 /// Copies a list of members, with each weak member made strong.
@@ -86,7 +86,7 @@ fn strong_packages(alloc: Global, packages: &[Package]) -> Result<Vec<Package>, 
             is_macro: unit.is_macro,
             dependencies,
             features,
-            asked: unit.asked.clone()?,
+            requested: unit.requested.clone()?,
         })?;
     }
     Ok(strong)
@@ -135,22 +135,22 @@ impl Reasons {
         let packages = features.resolution.resolved.packages();
         let mut left = left_out(alloc, graph, features)?;
         let strong = strong_packages(alloc, packages)?;
-        let mut told = Vec::new(alloc);
+        let mut reasons = Vec::new(alloc);
         let mut build = features.resolution.resolved.build();
-        told.push((WEAK, taken(alloc, &strong, build, &mut left)?))?;
+        reasons.push((WEAK, taken(alloc, &strong, build, &mut left)?))?;
         build.by_target = false;
-        told.push((TARGET, taken(alloc, packages, build, &mut left)?))?;
+        reasons.push((TARGET, taken(alloc, packages, build, &mut left)?))?;
         build = features.resolution.resolved.build();
         build.by_side = false;
-        told.push((SIDE, taken(alloc, packages, build, &mut left)?))?;
+        reasons.push((SIDE, taken(alloc, packages, build, &mut left)?))?;
         build = features.resolution.resolved.build();
         build.with_dev = true;
-        told.push((DEV, taken(alloc, packages, build, &mut left)?))?;
+        reasons.push((DEV, taken(alloc, packages, build, &mut left)?))?;
         build.by_target = false;
         build.by_side = false;
-        told.push((SEVERAL, taken(alloc, &strong, build, &mut left)?))?;
-        told.push((UNASKED, left))?;
-        Ok(Some(Reasons { told }))
+        reasons.push((SEVERAL, taken(alloc, &strong, build, &mut left)?))?;
+        reasons.push((UNASKED, left))?;
+        Ok(Some(Reasons { reasons }))
     }
 
     /// Returns the reasons why a package is left out, each with the selected targets on which it is. Fails if memory is
@@ -159,12 +159,12 @@ impl Reasons {
         &self,
         alloc: Global,
         index: usize,
-        asked: &Asked<'_>,
+        query: &GraphQuery<'_>,
     ) -> Result<Vec<(Reason, TargetSet)>, AllocError> {
         let mut found = Vec::new(alloc);
-        for (reason, sets) in &self.told {
+        for (reason, sets) in &self.reasons {
             if let Some(set) = sets.get(index) {
-                let targets = set.intersection(asked.targets);
+                let targets = set.intersection(query.targets);
                 if !targets.is_empty() {
                     found.push((*reason, targets))?;
                 }

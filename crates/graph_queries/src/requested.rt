@@ -3,7 +3,7 @@
 
 use crate::lines::{shown, shown_package};
 use crate::reading::Rejected;
-use declared_features::{Asked as AskedFeatures, Declaring, Manifest};
+use declared_features::{Declaring, Manifest, RequestedFeatures};
 use key_answers::printing::shown_name;
 use std::alloc::{AllocError, Global};
 
@@ -176,7 +176,7 @@ fn unknown_reason(
 pub fn reject_unknown(
     alloc: Global,
     graph: &Declaring<'_, '_>,
-    features: &AskedFeatures<'_>,
+    features: &RequestedFeatures<'_>,
 ) -> Result<(), Rejected> {
     for (root, feature) in features.of_others {
         if !named_has(graph, root, feature) {

@@ -1,14 +1,12 @@
 //! Feature resolution: the resolver, the features that are requested, and what they turn on.
 
-use crate::asked::{Asked, Show};
 use crate::incomplete::lacking_reason;
 use crate::origins::using_from;
+use crate::query::{GraphQuery, Show};
 use crate::reading::{Input, Rejected};
 use crate::requested::{current_of, divided, names_of, reject_unknown};
 use cargo_features::{Build, Claim, Resolved, resolve};
-use declared_features::{
-    Asked as AskedFeatures, Declarations, Described, described_features, text_at,
-};
+use declared_features::{Declarations, Described, RequestedFeatures, described_features, text_at};
 use key_answers::answer::{Refusal, unusable_words};
 use key_answers::printing::shown_name;
 use known_targets::{KnownTarget, TargetSet};
@@ -81,11 +79,11 @@ impl Resolution {
 }
 
 /// Returns whether features have to be resolved.
-fn is_asked(asked: &Asked<'_>) -> bool {
-    let requested = &asked.requested;
-    let is_shown = matches!(asked.show, Show::Features | Show::Unified | Show::All);
-    let is_told = requested.resolver.is_some() || !requested.features.is_empty();
-    is_shown || is_told || requested.no_default || requested.all_features
+fn is_requested(query: &GraphQuery<'_>) -> bool {
+    let requested = &query.requested;
+    let is_shown = matches!(query.show, Show::Features | Show::Unified | Show::All);
+    let is_requested = requested.resolver.is_some() || !requested.features.is_empty();
+    is_shown || is_requested || requested.no_default || requested.all_features
 }
 
 /// The feature resolver.
@@ -167,12 +165,12 @@ fn build_of(resolver: Resolver, kinds: Kinds, host: KnownTarget) -> Build {
 }
 
 /// Returns the host for which features are resolved. Refuses a query without a host, and `--show why`.
-fn host_of(alloc: Global, asked: &Asked<'_>) -> Result<KnownTarget, Refusal> {
-    let Some(host) = asked.host else {
+fn host_of(alloc: Global, query: &GraphQuery<'_>) -> Result<KnownTarget, Refusal> {
+    let Some(host) = query.host else {
         let text = "features are resolved for a host: say --host NAME";
         return Err(unusable_words(alloc, text));
     };
-    if asked.show == Show::Why {
+    if query.show == Show::Why {
         let text =
             "`--show why` knows no features: leave out --resolver and what is asked of features";
         return Err(unusable_words(alloc, text));
@@ -184,7 +182,7 @@ fn host_of(alloc: Global, asked: &Asked<'_>) -> Result<KnownTarget, Refusal> {
 fn resolved_of<'a>(
     alloc: Global,
     input: &Input<'a>,
-    features: &AskedFeatures<'a>,
+    features: &RequestedFeatures<'a>,
     build: Build,
 ) -> Result<Resolution, Rejected> {
     let graph = input.declaring(alloc)?;
@@ -207,29 +205,29 @@ fn resolved_of<'a>(
 pub fn resolution_of<'a>(
     alloc: Global,
     input: &Input<'a>,
-    asked: &Asked<'_>,
+    query: &GraphQuery<'_>,
 ) -> Result<Option<Resolution>, Rejected> {
-    if !is_asked(asked) {
+    if !is_requested(query) {
         return Ok(None);
     }
-    let host = host_of(alloc, asked)?;
+    let host = host_of(alloc, query)?;
     let graph = input.declaring(alloc)?;
     let root = root_package(input.document);
-    let resolver = resolver_of(alloc, asked.requested.resolver, root)?;
+    let resolver = resolver_of(alloc, query.requested.resolver, root)?;
     let current = if resolver == Resolver::One && root.is_some() {
         Some(current_of(alloc, &graph)?)
     } else {
         None
     };
-    let names = names_of(alloc, asked.requested.features)?;
+    let names = names_of(alloc, query.requested.features)?;
     let (names, of_others) = divided(alloc, names, current, &graph)?;
-    let features = AskedFeatures {
+    let features = RequestedFeatures {
         names: &names,
-        default: !asked.requested.no_default,
-        all: asked.requested.all_features,
+        default: !query.requested.no_default,
+        all: query.requested.all_features,
         current,
         of_others: &of_others,
     };
-    let build = build_of(resolver, asked.kinds, host);
+    let build = build_of(resolver, query.kinds, host);
     Ok(Some(resolved_of(alloc, &*input, &features, build)?))
 }

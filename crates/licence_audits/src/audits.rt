@@ -2,7 +2,7 @@
 
 ghost use Rattle.std.specs.Prelude.{IfOk, map, ◌++◌, option_map};
 ghost use Rattle.spdx_expressions.specs.Trees.{term_of};
-ghost use Rattle.licence_audits.specs.Audits.{AreTold, IsToldOf};
+ghost use Rattle.licence_audits.specs.Audits.{AreFindings, IsFindingOf};
 ghost use Rattle.licence_audits.specs.Exceptions.{added};
 ghost use Rattle.licence_audits.specs.Findings.{HasFinding};
 
@@ -14,7 +14,7 @@ use std::alloc::{AllocError, Global};
 
 /// A problem with the licence of a package.
 #[derive(Drop)]
-pub struct Told {
+pub struct PackageFinding {
     /// The index of the package among those that were audited.
     pub place: usize,
     pub finding: Finding,
@@ -27,20 +27,21 @@ pub fn audit(
     subjects: &[Subject<'_>],
     exceptions: &[Exception],
     allowed: &[Licence],
-) -> Result<Vec<Told>, AllocError>
-    ensures { IfOk result (λ told. AreTold (map term_of allowed.now) exceptions.now subjects.now told.items) }
+) -> Result<Vec<PackageFinding>, AllocError>
+    ensures { IfOk result (λ findings. AreFindings (map term_of allowed.now) exceptions.now subjects.now
+        findings.items) }
 {
-    let mut told = Vec::new(alloc);
+    let mut findings = Vec::new(alloc);
     'subjects: for i in 0..subjects.len() {
         let subject = &subjects[i];
         if let Some(found) = audit_of(alloc, subject, exceptions, allowed)? {
-            told.push(Told {
+            findings.push(PackageFinding {
                 place: i,
                 finding: found,
             })?;
         }
     }
-    Ok(told)
+    Ok(findings)
 }
 
 /// Audits one package.
@@ -50,7 +51,7 @@ fn audit_of(
     exceptions: &[Exception],
     allowed: &[Licence],
 ) -> Result<Option<Finding>, AllocError>
-    ensures { IfOk result (λ found. IsToldOf (map term_of allowed.now) exceptions.now subject.now found) }
+    ensures { IfOk result (λ found. IsFindingOf (map term_of allowed.now) exceptions.now subject.now found) }
 {
     if is_audited(exceptions, subject) {
         judge_with(alloc, subject, exceptions, allowed)

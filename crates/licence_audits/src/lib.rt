@@ -10,7 +10,7 @@ mod findings;
 mod subjects;
 mod uses;
 
-pub use audits::{Told, audit};
+pub use audits::{PackageFinding, audit};
 pub use findings::{Finding, judge};
 pub use subjects::{Exception, PackageSpec, Subject};
 pub use uses::{is_unused_entry, is_unused_exception};

@@ -5,7 +5,7 @@ use crate::keys::TableKind;
 use crate::licence_table::read_licences;
 use crate::reader::Reader;
 use diagnostics::{
-    Diagnostic, Reported, Weight, diagnostic_of_failure, diagnostic_of_syntax, push_rendered,
+    Diagnostic, LintLevel, Reported, diagnostic_of_failure, diagnostic_of_syntax, push_rendered,
 };
 use input_limits::without_mark;
 use licence_audits::{Exception, PackageSpec};
@@ -107,7 +107,7 @@ impl PolicySource {
         let mut output = String::new(alloc);
         let reported = Reported {
             diagnostic,
-            weight: diagnostic.weight,
+            level: diagnostic.level,
             path: self.path.as_str(),
             text: self.text.as_str(),
         };
@@ -120,12 +120,12 @@ impl PolicySource {
     pub fn report(
         &self,
         alloc: Global,
-        weight: Weight,
+        level: LintLevel,
         at: Option<Location>,
         message: String,
     ) -> Result<String, AllocError> {
         let mut diagnostic = diagnostic_of_failure(alloc, message, at)?;
-        diagnostic.weight = weight;
+        diagnostic.level = level;
         self.rendered(alloc, &diagnostic)
     }
 }
@@ -173,7 +173,7 @@ impl Policy {
         !self
             .diagnostics
             .iter()
-            .any(|diagnostic| diagnostic.weight == Weight::Error)
+            .any(|diagnostic| diagnostic.level == LintLevel::Error)
     }
 
     /// Returns the diagnostics as rustc prints them for people. Fails if an allocation fails.

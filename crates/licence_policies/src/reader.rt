@@ -3,7 +3,7 @@
 use crate::keys::{TableKind, Treatment};
 use crate::policy::UnusedLevel;
 use cargo_platform::shown_start;
-use diagnostics::{Diagnostic, Weight, diagnostic_of_failure};
+use diagnostics::{Diagnostic, LintLevel, diagnostic_of_failure};
 use manifest_lints_findings::near;
 use manifests::places::{Location, Places, path_of};
 use spdx_expressions::ParseError;
@@ -73,12 +73,12 @@ impl Reader {
     /// Adds a diagnostic at a place.
     fn report_at(
         &mut self,
-        weight: Weight,
+        level: LintLevel,
         at: Option<Location>,
         message: String,
     ) -> Result<(), AllocError> {
         let mut diagnostic = diagnostic_of_failure(self.alloc, message, at)?;
-        diagnostic.weight = weight;
+        diagnostic.level = level;
         self.diagnostics.push(diagnostic)?;
         Ok(())
     }
@@ -86,18 +86,18 @@ impl Reader {
     /// Adds a diagnostic at the place of a key or element.
     pub fn report(
         &mut self,
-        weight: Weight,
+        level: LintLevel,
         path: &[&str],
         message: String,
     ) -> Result<(), AllocError> {
         let at = self.at(path)?;
-        self.report_at(weight, at, message)
+        self.report_at(level, at, message)
     }
 
     /// Adds an error with this message at the place of a key or element.
     pub fn reject(&mut self, path: &[&str], message: &str) -> Result<(), AllocError> {
         let message = String::from_str(self.alloc, message)?;
-        self.report(Weight::Error, path, message)
+        self.report(LintLevel::Error, path, message)
     }
 
     /// Adds the error of a text that is no licence, at the part of it that is wrong.
@@ -115,7 +115,7 @@ impl Reader {
             Some(at) => Some(self.part_at(at, text, error.span.start, error.span.end)?),
             None => None,
         };
-        self.report_at(Weight::Error, at, message)
+        self.report_at(LintLevel::Error, at, message)
     }
 
     /// Returns the place of a part of a text, given by its bytes, or else that of the text.
@@ -163,7 +163,7 @@ impl Reader {
                 None => {
                     let message = unknown_key(self.alloc, kind, key)?;
                     let at = self.at_key(path, key)?;
-                    self.report_at(Weight::Error, at, message)?;
+                    self.report_at(LintLevel::Error, at, message)?;
                 }
             }
         }
@@ -286,7 +286,7 @@ impl Reader {
                 names.push_str("`")?;
             }
             let message = format!(in alloc; "these keys are ignored: {names}")?;
-            reader.report_at(Weight::Note, None, message)?;
+            reader.report_at(LintLevel::Note, None, message)?;
         }
         Ok(reader.diagnostics)
     }

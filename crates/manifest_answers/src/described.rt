@@ -12,7 +12,7 @@ fn below_key<'d>(document: &'d Document, key: &str) -> Option<&'d Table> {
 }
 
 /// Returns the declaration of a dependency: a text, which is its version, or a table.
-fn told_of<'d>(document: &'d Document, dependency: &Dependency<'_>) -> Option<&'d Value> {
+fn declared_value<'d>(document: &'d Document, dependency: &Dependency<'_>) -> Option<&'d Value> {
     let tables = match dependency.key {
         Some(key) => below_key(document, key)?,
         None => &document.table,
@@ -23,21 +23,21 @@ fn told_of<'d>(document: &'d Document, dependency: &Dependency<'_>) -> Option<&'
 }
 
 /// Returns the text at a field of a declaration.
-fn text_at<'d>(told: Option<&'d Value>, field: &str) -> Option<&'d str> {
-    told?.as_table()?.get(field)?.as_str()
+fn text_at<'d>(declared: Option<&'d Value>, field: &str) -> Option<&'d str> {
+    declared?.as_table()?.get(field)?.as_str()
 }
 
 /// Returns the version requirement of a declaration.
-fn version_of<'d>(told: Option<&'d Value>) -> Option<&'d str> {
-    match told?.as_str() {
+fn version_of<'d>(declared: Option<&'d Value>) -> Option<&'d str> {
+    match declared?.as_str() {
         Some(version) => Some(version),
-        None => text_at(told, "version"),
+        None => text_at(declared, "version"),
     }
 }
 
 /// Returns the source of a declaration: `workspace`, `git`, `path` or `registry`.
-fn source_of(told: Option<&Value>) -> &'static str {
-    let Some(table) = told.and_then(Value::as_table) else {
+fn source_of(declared: Option<&Value>) -> &'static str {
+    let Some(table) = declared.and_then(Value::as_table) else {
         return "registry";
     };
     if table.get("workspace").and_then(Value::as_bool) == Some(true) {
@@ -52,9 +52,9 @@ fn source_of(told: Option<&Value>) -> &'static str {
 }
 
 /// Returns the features of a declaration, without values that are not texts.
-fn features_of<'d>(alloc: Global, told: Option<&'d Value>) -> Result<Vec<&'d str>, AllocError> {
+fn features_of<'d>(alloc: Global, declared: Option<&'d Value>) -> Result<Vec<&'d str>, AllocError> {
     let mut features = Vec::new(alloc);
-    let Some(table) = told.and_then(Value::as_table) else {
+    let Some(table) = declared.and_then(Value::as_table) else {
         return Ok(features);
     };
     if let Some(Value::Array(listed)) = table.get("features") {
@@ -96,12 +96,12 @@ impl<'d> Described<'d> {
         document: &'d Document,
         dependency: &Dependency<'_>,
     ) -> Result<Described<'d>, AllocError> {
-        let told = told_of(document, dependency);
+        let declared = declared_value(document, dependency);
         Ok(Described {
-            package: text_at(told, "package"),
-            version: version_of(told),
-            source: source_of(told),
-            features: features_of(alloc, told)?,
+            package: text_at(declared, "package"),
+            version: version_of(declared),
+            source: source_of(declared),
+            features: features_of(alloc, declared)?,
             line: line_of(document, dependency),
         })
     }

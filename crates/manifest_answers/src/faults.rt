@@ -9,7 +9,7 @@ use std::alloc::{AllocError, Global};
 
 /// The target of a selection, and the format of its errors.
 #[derive(Clone, Copy, Drop)]
-pub struct Asking<'a> {
+pub struct SelectionErrors<'a> {
     /// The name of the target, if it is the only one.
     pub target: Option<&'a str>,
     /// One object a line.
@@ -71,9 +71,9 @@ struct SelectionError<'a> {
     target: Option<&'a str>,
 }
 
-impl<'a> Asking<'a> {
+impl<'a> SelectionErrors<'a> {
     /// Formats an error as a line of JSON.
-    fn told(&self, alloc: Global, fault: &Fault<'a, 'a>) -> Result<String, AllocError> {
+    fn json_line(&self, alloc: Global, fault: &Fault<'a, 'a>) -> Result<String, AllocError> {
         let error = Cause {
             key: fault.key,
             line: fault.line,
@@ -91,7 +91,7 @@ impl<'a> Asking<'a> {
     }
 
     /// Returns the answer that reports an error: these lines, or a JSON object.
-    pub fn tell(
+    pub fn report(
         &self,
         alloc: Global,
         fault: &Fault<'_, '_>,
@@ -100,29 +100,29 @@ impl<'a> Asking<'a> {
         if !self.json {
             return Ok(Answer::unusable(alloc, String::from_str(alloc, lines)?));
         }
-        Ok(Answer::of(alloc, self.told(alloc, fault)?, Status::Unusable))
+        Ok(Answer::of(alloc, self.json_line(alloc, fault)?, Status::Unusable))
     }
 
     /// Returns the answer that reports what these lines say about the arguments of a command line.
-    pub fn tell_words(&self, alloc: Global, lines: &str) -> Result<Answer, AllocError> {
+    pub fn report_arguments(&self, alloc: Global, lines: &str) -> Result<Answer, AllocError> {
         let message = lines.strip_prefix("error: ").unwrap_or(lines);
         let message = message.strip_suffix("\n").unwrap_or(message);
-        self.tell(alloc, &Fault::of(None, message), lines)
+        self.report(alloc, &Fault::of(None, message), lines)
     }
 
     /// Returns the answer that reports an input that can't be used.
-    fn tell_unusable(&self, alloc: Global, unusable: &Unusable) -> Result<Answer, AllocError> {
+    fn report_unusable(&self, alloc: Global, unusable: &Unusable) -> Result<Answer, AllocError> {
         let line = unusable.line(alloc)?;
         let file = unusable.file.as_ref().map(|file: &String| file.as_str());
         let fault = Fault::of(file, unusable.reason.as_str());
-        self.tell(alloc, &fault, line.as_str())
+        self.report(alloc, &fault, line.as_str())
     }
 
     /// Returns the answer that reports inputs that can't be used, in their order.
-    pub fn tell_each(&self, alloc: Global, unusable: &[Unusable]) -> Result<Answer, AllocError> {
+    pub fn report_each(&self, alloc: Global, unusable: &[Unusable]) -> Result<Answer, AllocError> {
         let mut whole = Answer::of(alloc, String::new(alloc), Status::Fine);
         for it in unusable {
-            whole.append(self.tell_unusable(alloc, it)?)?;
+            whole.append(self.report_unusable(alloc, it)?)?;
         }
         Ok(whole)
     }

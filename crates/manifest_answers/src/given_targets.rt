@@ -7,7 +7,7 @@ use key_answers::answer::Refusal;
 use key_answers::printing::{refused_fact, shown_name};
 use known_targets::having;
 use manifest_lints_findings::near;
-use manifests::Asked;
+use manifests::TargetFacts;
 use partial_facts::{decide_platform, residual_platform};
 use std::alloc::{AllocError, Global};
 use std::collections::BTreeSet;
@@ -60,9 +60,9 @@ fn lines_of(alloc: Global, text: &str) -> Result<String, AllocError> {
 fn refused_file(alloc: Global, file: &str, error: &TableError) -> Result<Refusal, AllocError> {
     let line = match error {
         TableError::Line { number, error } => {
-            let told = refused_fact(alloc, *number, error)?;
-            let told = told.as_str().strip_prefix("error: ").unwrap_or("");
-            format!(in alloc; "{file}: error: {told}")?
+            let message = refused_fact(alloc, *number, error)?;
+            let message = message.as_str().strip_prefix("error: ").unwrap_or("");
+            format!(in alloc; "{file}: error: {message}")?
         }
         TableError::Twice { number } => {
             format!(in alloc; "{file}: error: line {number} names a target that stands above\n")?
@@ -129,8 +129,8 @@ impl GivenTargets {
         match self.table.by_name(name) {
             Some(row) => Ok(row),
             None => {
-                let told = self.unknown(alloc, name)?;
-                let line = format!(in alloc; "error: {told}\n")?;
+                let message = self.unknown(alloc, name)?;
+                let line = format!(in alloc; "error: {message}\n")?;
                 Err(Refusal::Unusable(line))
             }
         }
@@ -181,7 +181,7 @@ impl GivenTargets {
         let mut none = true;
         let mut each = true;
         for row in self.table.rows() {
-            let known = Asked {
+            let known = TargetFacts {
                 facts: row.facts(),
                 added: &[],
                 open,

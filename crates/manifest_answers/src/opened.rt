@@ -13,7 +13,7 @@ use toml::Table;
 struct Opened {
     name: String,
     /// True if a key uses it.
-    is_asked: bool,
+    is_used: bool,
     /// A name in a key that differs from this one by one edit.
     near: Option<String>,
 }
@@ -22,7 +22,7 @@ impl Opened {
     /// Records that a key uses this name.
     fn note(&mut self, alloc: Global, name: &str) -> Result<(), AllocError> {
         if self.name.as_str() == name {
-            self.is_asked = true;
+            self.is_used = true;
         } else if self.near.is_none() && near(self.name.as_str(), &[name]).is_some() {
             self.near = Some(String::from_str(alloc, name)?);
         }
@@ -43,7 +43,7 @@ impl OpenNames {
         for name in names {
             opened.push(Opened {
                 name: String::from_str(alloc, name)?,
-                is_asked: false,
+                is_used: false,
                 near: None,
             })?;
         }
@@ -86,11 +86,11 @@ impl OpenNames {
     }
 
     /// Returns a warning for each name that no key uses, a line each.
-    pub fn unasked(&self, alloc: Global) -> Result<String, AllocError> {
+    pub fn unused_names(&self, alloc: Global) -> Result<String, AllocError> {
         let mut lines = String::new(alloc);
         for opened in &self.names {
-            if !opened.is_asked {
-                let line = unasked_line(alloc, opened)?;
+            if !opened.is_used {
+                let line = unused_line(alloc, opened)?;
                 lines.push_str(line.as_str())?;
             }
         }
@@ -99,7 +99,7 @@ impl OpenNames {
 }
 
 /// Returns the warning for a name that no key uses.
-fn unasked_line(alloc: Global, opened: &Opened) -> Result<String, AllocError> {
+fn unused_line(alloc: Global, opened: &Opened) -> Result<String, AllocError> {
     let name = shown_name(alloc, opened.name.as_str())?;
     match &opened.near {
         Some(near) => {

@@ -54,12 +54,12 @@ fn without_facts(alloc: Global, name: &str) -> Result<String, AllocError> {
     let own = shown_name(alloc, own)?;
     let command = format!(in alloc; "rustc -Z unstable-options --print cfg --target {file}")?;
     format!(in alloc;
-        "error: {file} is no known target; ask for --target {own} with --facts FILE, or --facts -: {command}\n"
+        "error: {file} is not a known target; ask for --target {own} with --facts FILE, or --facts -: {command}\n"
     )
 }
 
 /// Returns whether `match` reports a finding of this lint: not what only `--cfg` sets, if facts are given.
-fn is_told(code: Code, has_facts: bool) -> bool {
+fn is_reported(code: Code, has_facts: bool) -> bool {
     code != Code::Custom || !has_facts
 }
 
@@ -89,7 +89,7 @@ fn unknown_lines(
     let words = Words::new(alloc)?;
     let mut text = String::new(alloc);
     for finding in &unknown_in(alloc, &words, key, condition)? {
-        if is_told(finding.code, has_facts) {
+        if is_reported(finding.code, has_facts) {
             push_finding(&mut text, alloc, finding)?;
         }
     }
@@ -132,8 +132,8 @@ fn unknown_in_file(
             return Ok(String::new(alloc));
         }
         let word = Code::UnknownTarget.word();
-        let told = given.unknown(alloc, name.as_str())?;
-        return format!(in alloc; "warning[{word}]: {told}\n");
+        let message = given.unknown(alloc, name.as_str())?;
+        return format!(in alloc; "warning[{word}]: {message}\n");
     }
     if asks_for_new(alloc, &condition, given)? {
         return Ok(String::new(alloc));
@@ -269,8 +269,8 @@ fn counted_in(
     let mut errors = format!(in alloc; "{count} of {whole} targets of {file}\n")?;
     if let Platform::Name(name) = condition {
         if given.by_name(name.as_str()).is_none() {
-            let told = given.unknown(alloc, name.as_str())?;
-            let note = format!(in alloc; "note: {told}\n")?;
+            let message = given.unknown(alloc, name.as_str())?;
+            let note = format!(in alloc; "note: {message}\n")?;
             errors.push_str(note.as_str())?;
         }
     }

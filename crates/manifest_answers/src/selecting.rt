@@ -2,7 +2,7 @@
 
 use crate::cargo_refuses::Rejected;
 use crate::described::{Described, first_line};
-use crate::faults::{Asking, Fault, span_of};
+use crate::faults::{Fault, SelectionErrors, span_of};
 use crate::given_targets::FactsFrom;
 use crate::in_turn::{Question, answer_each};
 use crate::opened::OpenNames;
@@ -14,7 +14,7 @@ use key_answers::printing::refused_key;
 use known_targets::KnownTarget;
 use manifest_lints_findings::shown_table;
 use manifests::reading::Manifest;
-use manifests::{Asked, Choice, Dependency, Kind, Row, SelectError, choose, select};
+use manifests::{Choice, Dependency, Kind, Row, SelectError, TargetFacts, choose, select};
 use serde::Serialize;
 use std::alloc::{AllocError, Global};
 use std::rt::{Env, Files};
@@ -221,7 +221,7 @@ fn push_object<'a>(
 /// Returns the message for a key that is not a table.
 fn no_table_line(alloc: Global, path: &str, key: &str) -> Result<String, AllocError> {
     let key = shown_start(alloc, key)?;
-    format!(in alloc; "{path}: error: target.'{key}' is no table\n")
+    format!(in alloc; "{path}: error: target.'{key}' is not a table\n")
 }
 
 /// Returns the lines for an invalid key.
@@ -239,7 +239,9 @@ fn refused_key_lines(
 fn refused_lines(alloc: Global, path: &str, error: &SelectError<'_>) -> Result<String, AllocError> {
     match error {
         SelectError::Memory(_) => Err(AllocError),
-        SelectError::TargetIsNoTable => format!(in alloc; "{path}: error: `target` is no table\n"),
+        SelectError::TargetIsNoTable => format!(in alloc;
+            "{path}: error: `target` is not a table\n"
+        ),
         SelectError::KeyIsNoTable(key) => no_table_line(alloc, path, key),
         SelectError::Refused(key, error) => refused_key_lines(alloc, path, key, error),
     }
@@ -249,11 +251,11 @@ fn refused_lines(alloc: Global, path: &str, error: &SelectError<'_>) -> Result<S
 fn refused_message(alloc: Global, error: &SelectError<'_>) -> Result<String, AllocError> {
     match error {
         SelectError::Memory(_) => Err(AllocError),
-        SelectError::TargetIsNoTable => String::from_str(alloc, "`target` is no table"),
-        SelectError::KeyIsNoTable(_) => String::from_str(alloc, "it is no table"),
+        SelectError::TargetIsNoTable => String::from_str(alloc, "`target` is not a table"),
+        SelectError::KeyIsNoTable(_) => String::from_str(alloc, "it is not a table"),
         SelectError::Refused(_, error) => {
             let kind = error.kind();
-            format!(in alloc; "the key spells no condition: {kind}")
+            format!(in alloc; "invalid key: {kind}")
         }
     }
 }
@@ -290,20 +292,20 @@ fn fault_in<'a, 'm>(
 /// Returns the answer on a manifest from which nothing is selected.
 fn refused<'a>(
     alloc: Global,
-    asking: &Asking<'_>,
+    errors: &SelectionErrors<'_>,
     manifest: &'a Manifest,
     error: &SelectError<'a>,
 ) -> Result<Answer, AllocError> {
     let lines = refused_lines(alloc, manifest.path.as_str(), error)?;
     let message = refused_message(alloc, error)?;
     let fault = fault_in(manifest, error, message.as_str());
-    asking.tell(alloc, &fault, lines.as_str())
+    errors.report(alloc, &fault, lines.as_str())
 }
 
 /// Returns the answer on a manifest that Cargo rejects.
 fn answer_on_rejected(
     alloc: Global,
-    asking: &Asking<'_>,
+    errors: &SelectionErrors<'_>,
     path: &str,
     rejected: &Rejected,
 ) -> Result<Answer, AllocError> {
@@ -315,33 +317,40 @@ fn answer_on_rejected(
         span: None,
         message: rejected.reason.as_str(),
     };
-    asking.tell(alloc, &fault, text.as_str())
+    errors.report(alloc, &fault, text.as_str())
 }
 
-/// Appends what is printed of the rows of a target, a line each; objects if JSON is selected.
+/// The rows of a manifest for a target, which are printed in this format.
+#[derive(Clone, Copy, Drop)]
+struct RowsOn<'a> {
+    manifest: &'a Manifest,
+    /// The name of the target.
+    target: &'a str,
+    errors: SelectionErrors<'a>,
+}
+
+/// Appends what is printed of the rows, a line each; objects if JSON is selected.
 fn push_rows(
     text: &mut String,
     alloc: Global,
-    manifest: &Manifest,
-    asking: &Asking<'_>,
-    target: &str,
+    on: RowsOn<'_>,
     rows: &[Row<'_>],
 ) -> Result<(), AllocError> {
-    if !asking.json {
-        let on = LinesOn {
-            path: manifest.path.as_str(),
-            target: if asking.target.is_some() {
-                None
-            } else {
-                Some(target)
-            },
-        };
-        return push_lines(text, alloc, on, rows);
+    if on.errors.json {
+        for row in rows {
+            push_object(text, alloc, on.manifest, on.target, row)?;
+        }
+        return Ok(());
     }
-    for row in rows {
-        push_object(text, alloc, manifest, target, row)?;
-    }
-    Ok(())
+    let on = LinesOn {
+        path: on.manifest.path.as_str(),
+        target: if on.errors.target.is_some() {
+            None
+        } else {
+            Some(on.target)
+        },
+    };
+    push_lines(text, alloc, on, rows)
 }
 
 /// A selected target, with the facts that are known of it.
@@ -355,7 +364,7 @@ struct KnownOf {
 /// `select`: the targets and the host, and how the answer is printed.
 #[derive(Drop)]
 struct Selecting<'a> {
-    asking: Asking<'a>,
+    errors: SelectionErrors<'a>,
     targets: &'a [KnownOf],
     open: &'a [&'a str],
     host: Host<'a>,
@@ -364,69 +373,32 @@ struct Selecting<'a> {
 }
 
 impl<'a> Selecting<'a> {
-    /// Adds the rows of a manifest for a target, or what Cargo rejects in it. Returns whether rows were added.
-    fn add_selected(
+    /// Returns the rows of a manifest for a target.
+    fn rows_of<'m>(
         &self,
         alloc: Global,
-        manifest: &Manifest,
-        rejected: &Option<Rejected>,
-        rows: &[Row<'_>],
-        target: &str,
-        whole: &mut Answer,
-    ) -> Result<bool, AllocError> {
-        match rejected {
-            Some(rejected) => {
-                let path = manifest.path.as_str();
-                whole.append(answer_on_rejected(alloc, &self.asking, path, rejected)?)?;
-                Ok(false)
-            }
-            None => {
-                push_rows(
-                    &mut whole.output,
-                    alloc,
-                    manifest,
-                    &self.asking,
-                    target,
-                    rows,
-                )?;
-                Ok(true)
-            }
-        }
-    }
-
-    /// Adds the rows of a manifest for a target. Returns whether rows were added: not if a key is invalid, or if Cargo
-    /// rejects something else, which is reported.
-    fn add_rows(
-        &self,
-        alloc: Global,
-        manifest: &Manifest,
-        rejected: &Option<Rejected>,
+        manifest: &'m Manifest,
         target: &KnownOf,
-        whole: &mut Answer,
-    ) -> Result<bool, AllocError> {
-        let known = Asked {
+    ) -> Result<Vec<Row<'m>>, SelectError<'m>> {
+        let known = TargetFacts {
             facts: &target.facts,
             added: &target.added,
             open: self.open,
         };
-        let name = target.name.as_str();
         let table = &manifest.document.table;
-        match select(alloc, table, name, &known, self.host.known()) {
-            Ok(mut rows) => {
-                self.host.decide(alloc, &mut rows)?;
-                self.add_selected(alloc, manifest, rejected, &rows, name, whole)
-            }
-            Err(error) => {
-                whole.append(refused(alloc, &self.asking, manifest, &error)?)?;
-                Ok(false)
-            }
-        }
+        select(
+            alloc,
+            table,
+            target.name.as_str(),
+            &known,
+            self.host.known(),
+        )
     }
 }
 
 impl<'a> Question for Selecting<'a> {
     fn asks_for_lines(&self) -> bool {
-        self.asking.json
+        self.errors.json
     }
 
     fn add_answer(
@@ -438,9 +410,21 @@ impl<'a> Question for Selecting<'a> {
     ) -> Result<(), AllocError> {
         self.opened.note(alloc, &manifest.document.table)?;
         for target in self.targets {
-            if !self.add_rows(alloc, manifest, rejected, target, whole)? {
-                return Ok(());
+            let mut rows = match self.rows_of(alloc, manifest, target) {
+                Ok(rows) => rows,
+                Err(error) => return whole.append(refused(alloc, &self.errors, manifest, &error)?),
+            };
+            if let Some(rejected) = rejected {
+                let path = manifest.path.as_str();
+                return whole.append(answer_on_rejected(alloc, &self.errors, path, rejected)?);
             }
+            self.host.decide(alloc, &mut rows)?;
+            let on = RowsOn {
+                manifest,
+                target: target.name.as_str(),
+                errors: self.errors,
+            };
+            push_rows(&mut whole.output, alloc, on, &rows)?;
         }
         Ok(())
     }
@@ -453,7 +437,7 @@ impl<'a> Question for Selecting<'a> {
         line: &str,
     ) -> Result<Answer, AllocError> {
         let fault = Fault::of(Some(path), reason);
-        self.asking.tell(alloc, &fault, line)
+        self.errors.report(alloc, &fault, line)
     }
 }
 
@@ -469,7 +453,7 @@ pub struct Target {
 #[derive(Clone, Copy, Drop)]
 pub struct Selection<'a> {
     /// The name of the target, if it is the only one, and the output format.
-    pub asking: Asking<'a>,
+    pub errors: SelectionErrors<'a>,
     /// The names and keys whose facts are open.
     pub open: &'a [&'a str],
     /// The source of the facts of targets.
@@ -517,7 +501,7 @@ impl<'a> Host<'a> {
         let Host::OfFile(host) = self else {
             return Ok(());
         };
-        let known = Asked {
+        let known = TargetFacts {
             facts: host.facts(),
             added: &[],
             open: &[],
@@ -535,9 +519,13 @@ impl<'a> Host<'a> {
 }
 
 /// Appends the messages about names that are left open and that no key uses.
-fn add_unasked(answer: &mut Answer, alloc: Global, opened: &OpenNames) -> Result<(), AllocError> {
-    let unasked = opened.unasked(alloc)?;
-    answer.errors.push_str(unasked.as_str())
+fn add_unused_names(
+    answer: &mut Answer,
+    alloc: Global,
+    opened: &OpenNames,
+) -> Result<(), AllocError> {
+    let unused_names = opened.unused_names(alloc)?;
+    answer.errors.push_str(unused_names.as_str())
 }
 
 /// Returns the facts that are known of a target.
@@ -584,13 +572,13 @@ pub fn select_each<R: Files + Input + Env + AllocGlobal>(
     let targets = known_of_each(alloc, targets, selection.facts_from)?;
     let host = Host::of(alloc, selection.host, selection.facts_from)?;
     let mut selecting = Selecting {
-        asking: selection.asking,
+        errors: selection.errors,
         targets: &targets,
         open: selection.open,
         host,
         opened: OpenNames::new(alloc, selection.open)?,
     };
     let mut answer = answer_each(rt, documents, paths, &mut selecting)?;
-    add_unasked(&mut answer, alloc, &selecting.opened)?;
+    add_unused_names(&mut answer, alloc, &selecting.opened)?;
     Ok(answer)
 }

@@ -11,12 +11,12 @@ use target_tables::{TargetRow, TargetTable};
 
 /// The targets of a file, with those that are selected.
 #[derive(Drop)]
-pub struct AskedTable<'a> {
+pub struct TableSelection<'a> {
     /// The name of the file, as it is displayed.
     file: &'a str,
     table: &'a TargetTable,
     /// For each target, whether it is selected.
-    is_asked: Vec<bool>,
+    is_selected: Vec<bool>,
     /// The index of the host, if one is named.
     host: Option<usize>,
 }
@@ -40,23 +40,23 @@ fn place_of(alloc: Global, file: &str, table: &TargetTable, name: &str) -> Resul
 }
 
 /// Returns for each target whether it has one of these names. If there are no names, all targets are selected.
-fn asked_of(
+fn selected_of(
     alloc: Global,
     file: &str,
     table: &TargetTable,
     names: &[&str],
 ) -> Result<Vec<bool>, Refusal> {
-    let mut is_asked = vec![in alloc; names.is_empty(); table.rows().len()]?;
+    let mut is_selected = vec![in alloc; names.is_empty(); table.rows().len()]?;
     for name in names {
         let place = place_of(alloc, file, table, name)?;
-        if let Some(slot) = is_asked.get_mut(place) {
+        if let Some(slot) = is_selected.get_mut(place) {
             *slot = true;
         }
     }
-    Ok(is_asked)
+    Ok(is_selected)
 }
 
-impl<'a> AskedTable<'a> {
+impl<'a> TableSelection<'a> {
     /// Returns the targets of a file, of which those with one of these names are selected, or all if there are no
     /// names. `file` is displayed in messages.
     ///
@@ -69,11 +69,11 @@ impl<'a> AskedTable<'a> {
         table: &'a TargetTable,
         names: &[&str],
         host: Option<&str>,
-    ) -> Result<AskedTable<'a>, Refusal> {
-        Ok(AskedTable {
+    ) -> Result<TableSelection<'a>, Refusal> {
+        Ok(TableSelection {
             file,
             table,
-            is_asked: asked_of(alloc, file, table, names)?,
+            is_selected: selected_of(alloc, file, table, names)?,
             host: match host {
                 Some(name) => Some(place_of(alloc, file, table, name)?),
                 None => None,
@@ -223,11 +223,11 @@ pub fn is_at(at: &[bool], place: usize) -> bool {
 /// them.
 fn numbers_of(
     alloc: Global,
-    is_asked: &[bool],
+    is_selected: &[bool],
     conditions: &[Held<'_>],
 ) -> Result<Numbers, AllocError> {
-    let of = vec![in alloc; 0; is_asked.len()]?;
-    let mut numbers = parted(alloc, &Numbers { of, count: 1 }, is_asked)?;
+    let of = vec![in alloc; 0; is_selected.len()]?;
+    let mut numbers = parted(alloc, &Numbers { of, count: 1 }, is_selected)?;
     for condition in conditions {
         numbers = parted(alloc, &numbers, &condition.at)?;
     }
@@ -271,7 +271,7 @@ fn set_of(places: &[KnownTarget], at: &[bool]) -> TargetSet {
 /// none, and each condition of the graph has the same truth value on them.
 #[derive(Drop)]
 pub struct Groups<'a> {
-    asked: AskedTable<'a>,
+    selection: TableSelection<'a>,
     /// For each target of the file, the known target that represents its group.
     places: Vec<KnownTarget>,
 }
@@ -280,45 +280,47 @@ pub struct Groups<'a> {
 /// accordingly. Fails if there are more groups than known targets, or if memory is refused.
 pub fn grouped<'a>(
     alloc: Global,
-    asked: AskedTable<'a>,
+    selection: TableSelection<'a>,
     metadata: &Metadata<'_>,
     linked: &mut Linked<'_>,
 ) -> Result<Groups<'a>, Refusal> {
-    let mut conditions = conditions_of(alloc, asked.table, metadata)?;
-    let numbers = numbers_of(alloc, &asked.is_asked, &conditions)?;
-    let places = places_of(alloc, asked.file, &numbers)?;
+    let mut conditions = conditions_of(alloc, selection.table, metadata)?;
+    let numbers = numbers_of(alloc, &selection.is_selected, &conditions)?;
+    let places = places_of(alloc, selection.file, &numbers)?;
     for condition in &mut conditions {
         condition.set = set_of(&places, &condition.at);
     }
     put_sets(linked, metadata, &conditions);
-    Ok(Groups { asked, places })
+    Ok(Groups { selection, places })
 }
 
 impl<'a> Groups<'a> {
     /// Returns the name of the file, as it is displayed.
     pub fn file(&self) -> &'a str {
-        self.asked.file
+        self.selection.file
     }
 
     /// Returns the selected targets.
     pub fn targets(&self) -> TargetSet {
-        set_of(&self.places, &self.asked.is_asked)
+        set_of(&self.places, &self.selection.is_selected)
     }
 
     /// Returns the host, if one is named.
     pub fn host(&self) -> Option<KnownTarget> {
-        self.places.get(self.asked.host?).copied()
+        self.places.get(self.selection.host?).copied()
     }
 
     /// Returns the targets of the file, in its order.
     pub fn rows(&self) -> &'a [TargetRow] {
-        self.asked.table.rows()
+        self.selection.table.rows()
     }
 
     /// Returns the known target that represents the target of the file at an index, if that is selected, or if it is
     /// the host and `with_host` is true.
     pub fn place_of(&self, index: usize, with_host: bool) -> Option<KnownTarget> {
-        if is_at(&self.asked.is_asked, index) || (with_host && self.asked.host == Some(index)) {
+        if is_at(&self.selection.is_selected, index)
+            || (with_host && self.selection.host == Some(index))
+        {
             self.places.get(index).copied()
         } else {
             None

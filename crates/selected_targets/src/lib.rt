@@ -7,5 +7,5 @@ mod groups;
 mod selected;
 
 pub use conditions::Finder;
-pub use groups::{AskedTable, Groups, grouped};
+pub use groups::{Groups, TableSelection, grouped};
 pub use selected::Selection;

@@ -37,7 +37,7 @@ pub struct Requested<'a> {
 
 /// The arguments of the command line, as they are given.
 #[derive(Clone, Copy, Drop)]
-pub struct Words<'a> {
+pub struct GraphArguments<'a> {
     /// The names of the selected targets. If there are none, all targets are selected.
     pub targets: &'a [&'a str],
     /// The dependency kinds to follow, separated by commas. `None` follows all kinds.
@@ -85,7 +85,7 @@ pub struct Made<'a> {
 
 /// A query of a graph: the arguments after they are checked.
 #[derive(Clone, Copy, Drop)]
-pub struct Asked<'a> {
+pub struct GraphQuery<'a> {
     /// The selected targets.
     pub targets: TargetSet,
     /// The number of selected targets.
@@ -139,9 +139,9 @@ fn target_of(alloc: Global, name: &str) -> Result<KnownTarget, Refusal> {
 
 /// Returns the known targets with the given names, or all of them if no name or a file is given. Targets of a file are
 /// looked up later.
-fn targets_of(alloc: Global, words: &Words<'_>) -> Result<TargetSet, Refusal> {
-    let names = words.targets;
-    if names.is_empty() || words.facts_of.is_some() {
+fn targets_of(alloc: Global, arguments: &GraphArguments<'_>) -> Result<TargetSet, Refusal> {
+    let names = arguments.targets;
+    if names.is_empty() || arguments.facts_of.is_some() {
         return Ok(TargetSet::all());
     }
     let mut targets = TargetSet::none();
@@ -193,9 +193,9 @@ fn side_of(alloc: Global, word: Option<&str>) -> Result<Option<Side>, Refusal> {
 }
 
 /// Returns the known target that `--host` names, if any. A host in a file is looked up later.
-fn host_of(alloc: Global, words: &Words<'_>) -> Result<Option<KnownTarget>, Refusal> {
-    match words.host {
-        Some(name) if words.facts_of.is_none() => Ok(Some(target_of(alloc, name)?)),
+fn host_of(alloc: Global, arguments: &GraphArguments<'_>) -> Result<Option<KnownTarget>, Refusal> {
+    match arguments.host {
+        Some(name) if arguments.facts_of.is_none() => Ok(Some(target_of(alloc, name)?)),
         _ => Ok(None),
     }
 }
@@ -216,32 +216,34 @@ fn show_of(word: Option<&str>) -> Option<Show> {
 
 /// Returns the message for options that do not go together, if there are any: some need `--against`, and others exclude
 /// it.
-fn misplaced(words: &Words<'_>) -> Option<&'static str> {
-    let is_audit = words.allow.is_some() || words.allow_file.is_some() || words.policy.is_some();
-    if words.against.is_none() {
-        let is_alone = words.markdown || words.fail_on.is_some();
+fn misplaced(arguments: &GraphArguments<'_>) -> Option<&'static str> {
+    let is_audit = arguments.allow.is_some()
+        || arguments.allow_file.is_some()
+        || arguments.policy.is_some();
+    if arguments.against.is_none() {
+        let is_alone = arguments.markdown || arguments.fail_on.is_some();
         return if is_alone {
             Some("--markdown and --fail-on need --against")
         } else {
             None
         };
     }
-    if words.facts_of.is_some() {
+    if arguments.facts_of.is_some() {
         return Some("--against and --facts-of exclude each other");
     }
-    if words.markdown && words.json {
+    if arguments.markdown && arguments.json {
         return Some("--markdown and --json exclude each other");
     }
-    if words.show.is_some() || is_audit || words.html.is_some() {
+    if arguments.show.is_some() || is_audit || arguments.html.is_some() {
         return Some("--against excludes --show, --allow, --allow-file, --policy and --html");
     }
     None
 }
 
-impl<'a> Asked<'a> {
+impl<'a> GraphQuery<'a> {
     /// Returns the query for all packages, as lines of JSON, on all known targets, in builds on `host`.
-    pub fn packages_on(host: Option<KnownTarget>) -> Asked<'a> {
-        Asked {
+    pub fn packages_on(host: Option<KnownTarget>) -> GraphQuery<'a> {
+        GraphQuery {
             targets: TargetSet::all(),
             count: COUNT,
             are_named: false,
@@ -271,24 +273,24 @@ impl<'a> Asked<'a> {
     /// Refuses an unknown word of `--show`, one of `--show why` and `--of` without the other, options that `--against`
     /// needs or excludes, and the name of an unknown target, host, side or dependency kind; targets and hosts of a file
     /// are not checked here. Fails if memory is refused.
-    pub fn of(alloc: Global, words: &Words<'a>) -> Result<Asked<'a>, Refusal> {
-        let Some(show) = show_of(words.show) else {
+    pub fn of(alloc: Global, arguments: &GraphArguments<'a>) -> Result<GraphQuery<'a>, Refusal> {
+        let Some(show) = show_of(arguments.show) else {
             let text = "--show names packages, edges, targets, why, features, unified or all";
             return Err(unusable_words(alloc, text));
         };
-        if words.of.is_some() != (show == Show::Why) {
+        if arguments.of.is_some() != (show == Show::Why) {
             let text = "`--show why` and `--of NAME` go together";
             return Err(unusable_words(alloc, text));
         }
-        if let Some(text) = misplaced(words) {
+        if let Some(text) = misplaced(arguments) {
             return Err(unusable_words(alloc, text));
         }
-        let targets = targets_of(alloc, words)?;
-        let kinds = kinds_of(alloc, words.edges)?;
-        let side = side_of(alloc, words.side)?;
-        let host = host_of(alloc, words)?;
-        let are_named = !words.targets.is_empty();
-        Ok(Asked {
+        let targets = targets_of(alloc, arguments)?;
+        let kinds = kinds_of(alloc, arguments.edges)?;
+        let side = side_of(alloc, arguments.side)?;
+        let host = host_of(alloc, arguments)?;
+        let are_named = !arguments.targets.is_empty();
+        Ok(GraphQuery {
             targets,
             count: if are_named { targets.len() } else { COUNT },
             are_named,
@@ -296,24 +298,24 @@ impl<'a> Asked<'a> {
             side,
             host,
             groups: None,
-            packages: words.packages,
+            packages: arguments.packages,
             show,
-            of: words.of.unwrap_or(""),
-            json: words.json,
-            html: words.html,
-            markdown: words.markdown,
-            requested: words.requested,
+            of: arguments.of.unwrap_or(""),
+            json: arguments.json,
+            html: arguments.html,
+            markdown: arguments.markdown,
+            requested: arguments.requested,
         })
     }
 
     /// Returns the same query for the targets of a file.
-    pub fn in_groups(self, groups: &'a Groups<'a>) -> Asked<'a> {
-        let mut asked = self;
-        asked.targets = groups.targets();
-        asked.count = groups.count_of(asked.targets);
-        asked.host = groups.host();
-        asked.groups = Some(groups);
-        asked
+    pub fn in_groups(self, groups: &'a Groups<'a>) -> GraphQuery<'a> {
+        let mut query = self;
+        query.targets = groups.targets();
+        query.count = groups.count_of(query.targets);
+        query.host = groups.host();
+        query.groups = Some(groups);
+        query
     }
 
     /// Returns the selected targets.
