@@ -3,7 +3,7 @@
 ghost use Rattle.std.specs.Prelude.{◌≡◌, true, false, IfOk};
 ghost use Rattle.serde_json.specs.View.{view};
 ghost use Rattle.byte_graphs.specs.Documents.{HasDeepCondition, HasDeepDependency, HasDeepKind};
-ghost use Rattle.byte_graphs.specs.Inside.Telling.{IsTold, IsToldOf};
+ghost use Rattle.byte_graphs.specs.Inside.Answering.{IsAnswer, IsAnswerFor};
 
 use byte_answers::is_too_deep;
 use cargo_metadata::graphs::link;
@@ -16,7 +16,7 @@ use std::alloc::{AllocError, Global};
 
 /// The result for a document.
 #[derive(Drop)]
-pub enum Told {
+pub enum Answer {
     /// A line of JSON for each package.
     Lines(String),
     /// The reason why the document cannot be used.
@@ -66,47 +66,51 @@ fn has_deep_condition(metadata: &Metadata<'_>) -> bool
 }
 
 /// Returns the result for a document that was parsed as JSON.
-fn told_of_json(
+fn answer_for_json(
     alloc: Global,
     document: &Value,
     host: Option<KnownTarget>,
-) -> Result<Told, AllocError>
-    ensures { IfOk result (λ told. IsToldOf (view document.now) told) }
+) -> Result<Answer, AllocError>
+    ensures { IfOk result (λ answer. IsAnswerFor (view document.now) answer) }
 {
     let metadata = match read(alloc, document) {
         Ok(metadata) => metadata,
         Err(refusal) => {
             let reason = document_reason(alloc, document, &refusal)?;
-            return Ok(Told::Reason(reason));
+            return Ok(Answer::Reason(reason));
         }
     };
     if has_deep_condition(&metadata) {
-        return Ok(Told::TooDeep);
+        return Ok(Answer::TooDeep);
     }
     match link(alloc, &metadata) {
         Ok(linked) => {
             let lines = package_lines(alloc, metadata, linked, host)?;
-            Ok(Told::Lines(lines))
+            Ok(Answer::Lines(lines))
         }
         Err(refusal) => {
             let reason = graph_reason(alloc, &metadata, &refusal)?;
-            Ok(Told::Reason(reason))
+            Ok(Answer::Reason(reason))
         }
     }
 }
 
 /// Returns the result for the text of a document. Fails if an allocation fails.
-pub fn told_of(alloc: Global, text: &str, host: Option<KnownTarget>) -> Result<Told, AllocError>
-    ensures { IfOk result (λ told. IsTold text.now told) }
+pub fn answer_for(
+    alloc: Global,
+    text: &str,
+    host: Option<KnownTarget>,
+) -> Result<Answer, AllocError>
+    ensures { IfOk result (λ answer. IsAnswer text.now answer) }
 {
     match Value::from_str(alloc, text) {
-        Ok(document) => told_of_json(alloc, &document, host),
+        Ok(document) => answer_for_json(alloc, &document, host),
         Err(error) => {
             if error.is_memory() {
                 return Err(AllocError);
             }
             let reason = format!(in alloc; "no JSON: {error}")?;
-            Ok(Told::Reason(reason))
+            Ok(Answer::Reason(reason))
         }
     }
 }

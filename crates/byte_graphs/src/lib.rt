@@ -12,7 +12,7 @@ ghost use Rattle.byte_graphs.specs.Documents.{IsGraph, IsDeepGraph, IsUnusable};
 mod documents;
 
 use byte_answers::{DONE, NO_MEMORY, NOT_UTF8, Outcome, REFUSED, TOO_DEEP, UNKNOWN_TARGET, write};
-use documents::{Told, told_of};
+use documents::{Answer, answer_for};
 use known_targets::{COUNT, KnownTarget};
 use std::alloc::Global;
 use std::str;
@@ -32,25 +32,6 @@ fn host_of(name: &str) -> Result<Option<KnownTarget>, &str>
     match KnownTarget::by_name(name) {
         Some(target) => Ok(Some(target)),
         None => Err(name),
-    }
-}
-
-/// Returns the outcome of a rejected document, and writes the reason.
-fn refused(reason: &str, out: &mut [u8]) -> Outcome
-    ensures written { (text : List ℕ) × IsWritten text result.needed out.old out.new }
-    ensures code { result.code ≡ REFUSED }
-    ensures argument { result.argument ≡ 0 }
-    ensures holds { HasNoAnswer result }
-    ensures span { HasNoSpan result }
-{
-    Outcome {
-        code: REFUSED,
-        argument: 0,
-        holds: false,
-        is_named: false,
-        needed: write(reason.as_bytes(), out),
-        start: 0,
-        end: 0,
     }
 }
 
@@ -103,10 +84,10 @@ pub fn graph(alloc: Global, document: &[u8], host: &[u8], out: &mut [u8]) -> Out
     let Ok(host) = host_of(name) else {
         return Outcome::ended(UNKNOWN_TARGET, 1);
     };
-    match told_of(alloc, document, host) {
-        Ok(Told::Lines(lines)) => Outcome::done(write(lines.as_bytes(), out)),
-        Ok(Told::Reason(reason)) => refused(reason.as_str(), out),
-        Ok(Told::TooDeep) => Outcome::ended(TOO_DEEP, 0),
+    match answer_for(alloc, document, host) {
+        Ok(Answer::Lines(lines)) => Outcome::done(write(lines.as_bytes(), out)),
+        Ok(Answer::Reason(reason)) => Outcome::refused(0, reason.as_str(), out),
+        Ok(Answer::TooDeep) => Outcome::ended(TOO_DEEP, 0),
         Err(_) => Outcome::ended(NO_MEMORY, 0),
     }
 }

@@ -72,8 +72,8 @@ const JSON: Argument = Argument {
 const TARGET: Argument = Argument {
     name: "target",
     given: Given::Needed("NAME"),
-    help: "Select this target: a known one, all for every known one, or with --facts a custom target specification, \
-           named without .json",
+    help: "Select this target: a known target, all for all known targets, or with --facts a custom target \
+           specification, written without .json",
 };
 
 const FACTS: Argument = Argument {
@@ -84,8 +84,8 @@ const FACTS: Argument = Argument {
 
 /// The help of `--facts-of`.
 const TABLE: &str =
-    "Use targets and facts of another rustc, from FILE or -, written by: for t in $(rustc --print target-list); do \
-     echo $t; rustc --print cfg --target $t; echo; done > FILE";
+    "Use the targets and facts of another rustc, from FILE or -. To write FILE: for t in $(rustc --print \
+     target-list); do echo $t; rustc --print cfg --target $t; echo; done > FILE";
 
 const FACTS_OF: Argument = Argument {
     name: "facts-of",
@@ -108,7 +108,7 @@ const ADDED_FACTS: Argument = Argument {
 const MANIFEST_PATH: Argument = Argument {
     name: "manifest-path",
     given: Given::Values("PATH"),
-    help: "Add a manifest, as MANIFEST does",
+    help: "Use this manifest too, as if it were a MANIFEST",
 };
 
 const PACKAGE: Argument = Argument {
@@ -120,25 +120,25 @@ const PACKAGE: Argument = Argument {
 const EXCLUDE: Argument = Argument {
     name: "exclude",
     given: Given::Values("SPEC|PATH"),
-    help: "Leave out these packages, or the manifests in or below this folder, which may be a glob as in .gitignore",
+    help: "Leave out these packages, or the manifests in or below this folder; PATH may be a glob, as in .gitignore",
 };
 
 const NO_WORKSPACE: Argument = Argument {
     name: "no-workspace",
     given: Given::Flag,
-    help: "Use only the manifests that are named, without members of their workspaces",
+    help: "Use only the manifests that you name, without the members of their workspaces",
 };
 
 const STDIN_FILENAME: Argument = Argument {
     name: "stdin-filename",
     given: Given::Value("PATH"),
-    help: "Read standard input as the manifest at PATH, in its workspace, before an editor has saved it",
+    help: "Read standard input in place of the manifest at PATH, such as a text that an editor has not saved yet",
 };
 
 const WORKSPACE: Argument = Argument {
     name: "workspace",
     given: Given::Flag,
-    help: "Use all members of the workspace, also if the manifest is that of a member",
+    help: "Use all members of the workspace, even if the manifest is that of a member",
 };
 
 const LIMIT: Argument = Argument {
@@ -161,12 +161,12 @@ const LINT: Subcommand = Subcommand {
     name: "lint",
     about: "Check the target conditions of Cargo manifests",
     end: "Example: manifest_check lint Cargo.toml\n\n\
-          If the manifest is the root of a workspace, its members are checked too. The metadata of the package and \
-          of the workspace can have tables `manifest-check` with lists `allow`, `warn` and `deny`; the options override \
-          them.\n\n\
-          Exit status: 0 if there is no error or warning, 1 if there is one, 2 if an argument is invalid or a manifest \
-          cannot be read. A manifest that cannot be read is reported in every format. A key with more than 100,000 \
-          nested groups is invalid.",
+          If the manifest is the root of a workspace, its members are checked too. The metadata of the package and of \
+          the workspace can contain a table `manifest-check` with the lists `allow`, `warn` and `deny`. The options \
+          override these lists.\n\n\
+          Exit status: 0 if there is no error or warning, 1 if there is one, 2 if an argument is invalid or a \
+          manifest cannot be read. A manifest that cannot be read is reported in every format. A key with more than \
+          100,000 nested groups is invalid.",
     arguments: &[
         JSON,
         Argument {
@@ -177,13 +177,13 @@ const LINT: Subcommand = Subcommand {
         Argument {
             name: "color",
             given: Given::OneOf("WHEN", &["auto", "always", "never"]),
-            help: "Print levels in colour; auto, the default, does so if standard output is a terminal",
+            help: "Print levels in colour; auto, the default, prints colours only on a terminal",
         },
         Argument {
             name: "allow",
             given: Given::Lists("LINTS"),
-            help: "Do not report these lints, joined by commas, or all warnings or notes; the last option that matches \
-                   wins",
+            help: "Do not report these lints, joined by commas; warnings and notes stand for all lints of this level; \
+                   the last option that matches a lint applies",
         },
         Argument {
             name: "warn",
@@ -198,22 +198,23 @@ const LINT: Subcommand = Subcommand {
         Argument {
             name: "fail-on",
             given: Given::OneOf("LEVEL", &["error", "warning", "note"]),
-            help: "Exit with status 1 if there is a diagnostic of this or a more severe level, by default warning",
+            help: "Exit with status 1 if there is a diagnostic of this level or a more severe one; by default warning",
         },
         Argument {
             name: "exit-zero",
             given: Given::Flag,
-            help: "Exit with status 0 whatever is reported; invalid arguments and manifests still give 2",
+            help: "Exit with status 0 whatever is reported; for invalid arguments and manifests, the status is still \
+                   2",
         },
         Argument {
             name: "fix",
             given: Given::Flag,
-            help: "Apply suggestions that keep the meaning to the manifests, and report what is left",
+            help: "Apply the suggestions that keep the meaning of a manifest, and report what remains",
         },
         Argument {
             name: "unsafe-fixes",
             given: Given::FlagOf("fix", &[]),
-            help: "With --fix, apply suggestions that may change the meaning too",
+            help: "With --fix, also apply suggestions that may change the meaning",
         },
         Argument {
             name: "dry-run",
@@ -254,16 +255,18 @@ const LINT: Subcommand = Subcommand {
 
 const SELECT: Subcommand = Subcommand {
     name: "select",
-    about: "List the dependencies that a target selects from manifests",
+    about: "List the dependencies of manifests, and whether a target selects them",
     end: "Example: manifest_check select --target x86_64-pc-windows-msvc Cargo.toml\n\n\
-          If the manifest is the root of a workspace, those of its members are read too. Features are not resolved: an \
-          optional dependency is reported as optional. A key with more than 100,000 nested groups is invalid.",
+          If the manifest is the root of a workspace, the manifests of its members are read too. Features are not \
+          resolved: an optional dependency is reported as optional. A key with more than 100,000 nested groups is \
+          invalid.",
     arguments: &[
         TARGET,
         Argument {
             name: "host",
             given: Given::Value("NAME"),
-            help: "Evaluate build-dependencies on this target; without it, those under a key are open",
+            help: "Evaluate the keys of build-dependencies on this target; without it, build-dependencies under a key \
+                   are open",
         },
         FACTS,
         FACTS_OF_ALONE,
@@ -271,7 +274,7 @@ const SELECT: Subcommand = Subcommand {
         Argument {
             name: "open",
             given: Given::Values("NAME"),
-            help: "Leave each fact of this name or key open",
+            help: "Treat each fact with this name or key as open: it may be set or not",
         },
         Argument {
             name: "no-config",
@@ -352,7 +355,7 @@ const COMPARE: Subcommand = Subcommand {
         Argument {
             name: "budget",
             given: Given::Number("N", BUDGET),
-            help: "Answer undecided for a line after this many steps",
+            help: "Answer undecided for a line that takes more steps than this",
         },
         Argument {
             name: "first",
@@ -369,24 +372,24 @@ const COMPARE: Subcommand = Subcommand {
 
 const GRAPH: Subcommand = Subcommand {
     name: "graph",
-    about: "List the packages of a build, the targets on which they are in it, and why",
+    about: "List the packages of a build, the targets on which they are in the build, and why",
     end: "Example: cargo metadata --format-version 1 | manifest_check graph --show why --of libc\n\n\
           A file is rejected if it lacks dependencies because it was made with --no-deps, --filter-platform or fewer \
-          features than you select. The features that `cargo metadata` turned on are on, unless you resolve features \
-          for a --host, with --resolver or any other option on features.\n\n\
-          Exit status: 0 if no package is reported by --allow, --allow-file or --policy, and no change by --fail-on, \
-          1 if one is, 2 if an argument, the policy or the document is invalid. A condition with more than 100,000 \
-          nested groups is invalid.",
+          features than you select. By default, the features that `cargo metadata` enabled are enabled. To resolve \
+          features, pass --host, and --resolver or any other option about features.\n\n\
+          Exit status: 0 if --allow, --allow-file or --policy report no package and there is no change that --fail-on \
+          names, 1 otherwise, 2 if an argument, the policy or the document is invalid. A condition with more than \
+          100,000 nested groups is invalid.",
     arguments: &[
         Argument {
             name: "metadata",
             given: Given::Value("FILE"),
-            help: "Read what `cargo metadata --format-version 1` printed from FILE, by default from standard input",
+            help: "Read the output of `cargo metadata --format-version 1` from FILE; by default from standard input",
         },
         Argument {
             name: "target",
             given: Given::Values("NAME"),
-            help: "Select only this target, by default all known targets",
+            help: "Select only this target; by default all known targets",
         },
         Argument {
             name: "edges",
@@ -396,18 +399,19 @@ const GRAPH: Subcommand = Subcommand {
         Argument {
             name: "host",
             given: Given::Value("NAME"),
-            help: "Evaluate what build scripts and procedural macros need on this target",
+            help: "Evaluate the conditions of what build scripts and procedural macros need on this target",
         },
         Argument {
             name: "side",
             given: Given::OneOf("SIDE", &["target", "host"]),
-            help: "Select only what is built for this side: the target, which is shipped, or the host, which builds it",
+            help: "Select only what is built for this side: the target, on which the shipped program runs, or the \
+                   host, on which build scripts run",
         },
         FACTS_OF,
         Argument {
             name: "package",
             given: Given::Values("NAME"),
-            help: "Start from the members of this name, by default from all members",
+            help: "Start from the members of this name; by default from all members",
         },
         Argument {
             name: "show",
@@ -417,27 +421,28 @@ const GRAPH: Subcommand = Subcommand {
                     "packages", "edges", "targets", "why", "features", "unified", "all",
                 ],
             ),
-            help: "Print this, by default packages",
+            help: "Choose what to print; by default packages",
         },
         Argument {
             name: "resolver",
             given: Given::OneOf("WHICH", &["1", "2", "3", "edition"]),
-            help: "Resolve features as this resolver of Cargo does, or the one of the root package's edition",
+            help: "Resolve features as this resolver of Cargo does; edition means the resolver of the root package's \
+                   edition",
         },
         Argument {
             name: "features",
             given: Given::Values("NAMES"),
-            help: "Turn on these features of the roots, joined by commas",
+            help: "Enable these features of the roots, joined by commas",
         },
         Argument {
             name: "no-default-features",
             given: Given::Flag,
-            help: "Do not turn on the feature `default` of the roots",
+            help: "Do not enable the feature `default` of the roots",
         },
         Argument {
             name: "all-features",
             given: Given::Flag,
-            help: "Turn on all features of the roots",
+            help: "Enable all features of the roots",
         },
         Argument {
             name: "of",
@@ -447,7 +452,7 @@ const GRAPH: Subcommand = Subcommand {
         Argument {
             name: "allow",
             given: Given::Value("LIST"),
-            help: "Report packages whose licence this list does not satisfy: MIT,ISC",
+            help: "Report packages whose licence this list does not satisfy, for example MIT,ISC",
         },
         Argument {
             name: "allow-file",
@@ -457,8 +462,8 @@ const GRAPH: Subcommand = Subcommand {
         Argument {
             name: "except",
             given: Given::Values("PACKAGE"),
-            help: "Do not report these packages: NAME, NAME@VERSION or NAME@RANGE; with :LICENCES after it, allow \
-                   these licences for them",
+            help: "Do not report these packages: NAME, NAME@VERSION or NAME@RANGE; with :LICENCES at the end, allow \
+                   these licences for them too",
         },
         Argument {
             name: "except-private",
@@ -478,7 +483,7 @@ const GRAPH: Subcommand = Subcommand {
         Argument {
             name: "fail-on",
             given: Given::Value("CHANGES"),
-            help: "With --against, exit with status 1 if there is one of these changes, joined by commas: added, removed, \
+            help: "With --against, exit with status 1 if there is one of CHANGES, joined by commas: added, removed, \
                    updated, targets, licence, source, features",
         },
         Argument {
@@ -489,7 +494,7 @@ const GRAPH: Subcommand = Subcommand {
         Argument {
             name: "html",
             given: Given::Value("FILE"),
-            help: "Write an HTML page of the packages to this file too",
+            help: "Also write an HTML page of the packages to FILE",
         },
         Argument {
             name: "format",

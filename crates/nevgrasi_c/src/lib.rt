@@ -1,4 +1,4 @@
-//! The functions for C. Each is a call of `byte_answers` or `byte_graphs`, with its clauses.
+//! The functions for C. Each is a call of `byte_answers`, `byte_graphs` or `byte_commands`, with its clauses.
 //!
 //! For C, a slice is a pointer and a length, and the allocator is not an argument. `.ci/c-library --header` makes
 //! `include/nevgrasi.h` from these signatures and comments.
@@ -8,6 +8,7 @@ ghost use Rattle.std.specs.Prelude.{◌≡◌, ◌↔◌, ◌≢◌, ◌≤◌, 
 ghost use Rattle.std.specs.Str.{IsUtf8};
 ghost use Rattle.cargo_platform.specs.Trees.{Condition};
 ghost use Rattle.cargo_platform.specs.Platforms.{IsConditionText};
+ghost use Rattle.cargo_platform.specs.Facts.{FactSet};
 ghost use Rattle.known_targets.specs.Table.{target_name};
 ghost use Rattle.byte_answers.specs.Answers.{AreFactsOf, AreTargets, IsCanonical, IsFlatMatch, IsFlatOf, IsMatch};
 ghost use Rattle.byte_answers.specs.Answers.{IsPrint};
@@ -15,9 +16,12 @@ ghost use Rattle.byte_answers.specs.Comparisons.{AreRelated, AreUndecided, IsPos
 ghost use Rattle.byte_answers.specs.Depths.{IsReadable, IsTooDeep};
 ghost use Rattle.byte_answers.specs.Flat.{IsFlatForm, AreFlatFacts};
 ghost use Rattle.byte_answers.specs.Outcomes.{HasNoAnswer, HasNoSpan, IsSilent, IsWritten, ends_comparison};
-ghost use Rattle.byte_answers.specs.Outcomes.{ends_flat_call, ends_flat_print, ends_key_call, ends_target_call};
+ghost use Rattle.byte_answers.specs.Outcomes.{ends_fact_call, ends_flat_call, ends_flat_print, ends_key_call};
+ghost use Rattle.byte_answers.specs.Outcomes.{ends_prepared_call, ends_target_call};
+ghost use Rattle.byte_answers.specs.Prepared.{ArePrepared, IsPreparedMatch, StandFor};
 ghost use Rattle.byte_answers.specs.Refusals.{IsRefusal, IsRefusedLine, IsShownRefusal};
 ghost use Rattle.byte_graphs.specs.Documents.{IsGraph, IsDeepGraph, IsUnusable};
+ghost use Rattle.byte_commands.specs.Answers.{IsAnswer};
 
 use byte_answers::{
     DONE, MOST_FLAT_BYTES, NO_MEMORY, NOT_FLAT, NOT_UTF8, Outcome, REFUSED, Relation, TOO_DEEP,
@@ -28,6 +32,10 @@ use std::alloc::Global;
 
 /// The version of the interface. It rises whenever a caller of an earlier version may break.
 pub const ABI: u32 = 2;
+
+/// The first text in the parentheses after the version of `manifest_check`. In an unproved build it is
+/// `unproved build, `.
+const BUILD: &str = "";
 
 /// Returns the version of the interface. A caller that was compiled with another `NEVGRASI_ABI` should not go on.
 #[unsafe(no_mangle)]
@@ -419,6 +427,55 @@ pub extern "C" fn nevgrasi_flat_matches(
     outcome.code
 }
 
+/// Writes prepared facts: the facts in these lines, which are as `rustc --print cfg` prints them, as bytes that the
+/// caller can keep to match many flat conditions.
+#[unsafe(no_mangle)]
+pub extern "C" fn nevgrasi_prepare_facts(
+    alloc: Global,
+    lines: &[u8],
+    out: &mut [u8],
+    outcome: &mut Outcome,
+) -> u32
+    ensures done { result ≡ DONE → ArePrepared lines.now outcome.new.needed out.old out.new }
+    ensures refused { result ≡ REFUSED → IsRefusedLine lines.now outcome.new out.old out.new }
+    ensures not_utf8 { result ≡ NOT_UTF8 ↔ (IsUtf8 lines.now → ⊥) }
+    ensures silent { result ≢ DONE → result ≢ REFUSED → IsSilent outcome.new out.old out.new }
+    ensures argument { outcome.new.argument ≡ 0 }
+    ensures codes { IsTrue (ends_fact_call result) }
+    ensures holds { HasNoAnswer outcome.new }
+    ensures span { result ≢ REFUSED → HasNoSpan outcome.new }
+    ensures outcome { outcome.new.code ≡ result }
+{
+    *outcome = byte_answers::prepare_facts(alloc, lines, out);
+    outcome.code
+}
+
+/// Decides whether a flat condition is true on the target with this name and these prepared facts. `holds` is the
+/// answer. Texts are compared as bytes, and not checked to be UTF-8.
+#[unsafe(no_mangle)]
+pub extern "C" fn nevgrasi_prepared_matches(
+    alloc: Global,
+    flat: &[u8],
+    name: &[u8],
+    prepared: &[u8],
+    outcome: &mut Outcome,
+) -> u32
+    ensures done { result ≡ DONE → IsPreparedMatch flat.now name.now prepared.now outcome.new.holds }
+    ensures not_flat { result ≡ NOT_FLAT → outcome.new.argument ≡ 0 → IsFlatForm flat.now → ⊥ }
+    ensures not_prepared { result ≡ NOT_FLAT → outcome.new.argument ≡ 2
+        → (s : FactSet) → StandFor prepared.now s → ⊥ }
+    ensures refused_bytes { result ≡ NOT_FLAT → IsTrue (outcome.new.argument == 0 || outcome.new.argument == 2) }
+    ensures silent { outcome.new.needed ≡ 0 }
+    ensures codes { IsTrue (ends_prepared_call result) }
+    ensures holds { result ≢ DONE → HasNoAnswer outcome.new }
+    ensures named { outcome.new.is_named ≡ false }
+    ensures span { HasNoSpan outcome.new }
+    ensures outcome { outcome.new.code ≡ result }
+{
+    *outcome = byte_answers::prepared_matches(alloc, flat, name, prepared);
+    outcome.code
+}
+
 /// Writes a line of JSON for each package of a graph, with the known targets on which it is in the build, as the
 /// program `manifest_check graph --json` prints them. The document is the output of `cargo metadata --format-version
 /// 1`. Builds run on the host, a known target with this name, or on the target itself if the name is empty. With
@@ -453,5 +510,34 @@ pub extern "C" fn nevgrasi_graph(
     ensures outcome { outcome.new.code ≡ result }
 {
     *outcome = byte_graphs::graph(alloc, document, host, out);
+    outcome.code
+}
+
+/// Runs a command of the program `manifest_check` on files that the caller hands over, and writes its output, and its
+/// errors after it. With `DONE`, `argument` is the exit status, and the errors are from `start` to `end` of what is
+/// written. Each argument of the program ends with a NUL. Each file is its name, a NUL, its length in decimal digits, a
+/// NUL, and its bytes, and the file `-` is standard input. The current folder is the root, to which a relative name
+/// leads, and there are no environment variables. No other file exists, and nothing is written: a call that would write
+/// a file fails as on a read-only file system. With `REFUSED`, bytes do not have this form, and the reason is written;
+/// `argument` is then 0 for the arguments, and 1 for the files.
+#[unsafe(no_mangle)]
+pub extern "C" fn nevgrasi_run(
+    alloc: Global,
+    arguments: &[u8],
+    files: &[u8],
+    out: &mut [u8],
+    outcome: &mut Outcome,
+) -> u32
+    ensures done { result ≡ DONE → IsAnswer outcome.new out.old out.new }
+    ensures status { result ≡ DONE → outcome.new.argument ≤ 2 }
+    ensures refused { result ≡ REFUSED → (text : List ℕ) × IsWritten text outcome.new.needed out.old out.new }
+    ensures silent { result ≢ DONE → result ≢ REFUSED → IsSilent outcome.new out.old out.new }
+    ensures argument { result ≢ DONE → outcome.new.argument ≤ 1 }
+    ensures codes { IsTrue (result == DONE || result == REFUSED || result == NOT_UTF8 || result == NO_MEMORY) }
+    ensures holds { HasNoAnswer outcome.new }
+    ensures span { result ≢ DONE → HasNoSpan outcome.new }
+    ensures outcome { outcome.new.code ≡ result }
+{
+    *outcome = byte_commands::run(alloc, BUILD, arguments, files, out);
     outcome.code
 }

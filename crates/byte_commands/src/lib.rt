@@ -1,0 +1,132 @@
+//! The commands of `manifest_check` on bytes, written into a buffer of the caller, for callers that are not written in
+//! Rattle. No file is read or written: the caller hands files over.
+#![tactic(auto)]
+
+ghost use Rattle.std.specs.Prelude.{◌≡◌, ◌≢◌, ◌≤◌, ℕ, List, ◌++◌, IsTrue, ◌||◌, ◌==◌, IfOk, string_bytes};
+ghost use Rattle.byte_answers.specs.Outcomes.{HasNoAnswer, HasNoSpan, IsSilent, IsWritten};
+ghost use Rattle.byte_commands.specs.Answers.{IsAnswer};
+
+mod given;
+
+use byte_answers::{DONE, NO_MEMORY, NOT_UTF8, Outcome, REFUSED, write};
+use given::{Given, Misread, Part, given_by};
+use key_answers::answer::{Answer, Status};
+use memory_files::MemoryRuntime;
+use std::alloc::{AllocError, Global};
+
+/// The message about bytes that are not arguments.
+const NO_ARGUMENTS: &str = "the last argument does not end with a NUL";
+
+/// The message about bytes that are not files.
+const NO_FILES: &str = "a file is not a name, a NUL, a length, a NUL and so many bytes";
+
+/// Runs the command on what is handed over.
+fn answer_on(alloc: Global, build: &str, given: &Given<'_>) -> Result<Answer, AllocError> {
+    let rt = MemoryRuntime {
+        alloc,
+        files: &given.files,
+        arguments: &given.arguments,
+        input: given.input,
+    };
+    manifest_commands::run(&rt, build, false)
+}
+
+/// Returns the outcome of an answer, and writes `text`, its output and its errors, one after the other.
+fn done(text: &str, start: usize, status: Status, out: &mut [u8]) -> Outcome
+    ensures written { IsWritten text.now result.needed out.old out.new }
+    ensures code { result.code ≡ DONE }
+    ensures status { result.argument ≤ 2 }
+    ensures start { result.start ≡ start }
+    ensures end { result.end ≡ result.needed }
+    ensures holds { HasNoAnswer result }
+{
+    let needed = write(text.as_bytes(), out);
+    Outcome {
+        code: DONE,
+        argument: u32::from(status.code()),
+        holds: false,
+        is_named: false,
+        needed,
+        start,
+        end: needed,
+    }
+}
+
+/// Writes the output and the errors of an answer, one after the other.
+fn written(answer: Answer, out: &mut [u8]) -> Outcome
+    ensures done { result.code ≡ DONE → IsAnswer result out.old out.new }
+    ensures status { result.code ≡ DONE → result.argument ≤ 2 }
+    ensures silent { result.code ≢ DONE → IsSilent result out.old out.new }
+    ensures argument { result.code ≢ DONE → result.argument ≡ 0 }
+    ensures holds { HasNoAnswer result }
+    ensures span { result.code ≢ DONE → HasNoSpan result }
+    ensures codes { IsTrue (result.code == DONE || result.code == NO_MEMORY) }
+{
+    let Answer {
+        output,
+        errors,
+        status,
+    } = answer;
+    let start = output.len();
+    match joined(output, errors.as_str()) {
+        Ok(text) => done(text.as_str(), start, status, out),
+        Err(_) => Outcome::ended(NO_MEMORY, 0),
+    }
+}
+
+/// Returns a text and another one after it.
+fn joined(mut text: String, other: &str) -> Result<String, AllocError>
+    ensures { IfOk result (λ both. string_bytes both ≡ string_bytes text ++ other.now) }
+{
+    text.push_str(other)?;
+    Ok(text)
+}
+
+/// Returns the message about a part that does not have the form that it has to have.
+fn reason_for(part: Part) -> &'static str {
+    match part {
+        Part::Arguments => NO_ARGUMENTS,
+        Part::Files => NO_FILES,
+    }
+}
+
+/// Runs a command of `manifest_check` on files that are handed over, and writes its output, and its errors after it.
+/// With `DONE`, `argument` is the exit status, and the errors are from `start` to `end` of what is written.
+///
+/// Each argument ends with a NUL, and the name of the program is not among them. Each file is its name, a NUL, its
+/// length in decimal digits, a NUL, and its bytes. The file `-` is standard input. A relative name begins at the root,
+/// which is the current folder. There are no environment variables, and what is not handed over does not exist: nothing
+/// else is read, and nothing is written. `build` is put before the other texts in the parentheses after the version.
+///
+/// Returns `REFUSED`, with the reason in the buffer, if bytes do not have this form, and `NOT_UTF8` if an argument or a
+/// name is not UTF-8: `argument` is 0 for the arguments, and 1 for the files.
+pub fn run(alloc: Global, build: &str, arguments: &[u8], files: &[u8], out: &mut [u8]) -> Outcome
+    // With `DONE`, an output is written, and errors from `start` to `end`, if the buffer is long enough.
+    ensures done { result.code ≡ DONE → IsAnswer result out.old out.new }
+    // With `DONE`, `argument` is an exit status: at most 2.
+    ensures status { result.code ≡ DONE → result.argument ≤ 2 }
+    // With `REFUSED`, a reason is written if the buffer is long enough.
+    ensures refused { result.code ≡ REFUSED → (text : List ℕ) × IsWritten text result.needed out.old out.new }
+    // With other codes, nothing is written.
+    ensures silent { result.code ≢ DONE → result.code ≢ REFUSED → IsSilent result out.old out.new }
+    // With other codes than `DONE`, `argument` is 0 or 1.
+    ensures argument { result.code ≢ DONE → result.argument ≤ 1 }
+    // `holds` and `is_named` are false.
+    ensures holds { HasNoAnswer result }
+    // With other codes than `DONE`, `start` and `end` are 0.
+    ensures span { result.code ≢ DONE → HasNoSpan result }
+    // The code is one of these, or `NO_MEMORY`.
+    ensures codes { IsTrue (result.code == DONE || result.code == REFUSED || result.code == NOT_UTF8
+        || result.code == NO_MEMORY) }
+{
+    let given = match given_by(alloc, arguments, files) {
+        Ok(given) => given,
+        Err(Misread::Form(part)) => return Outcome::refused(part.index(), reason_for(part), out),
+        Err(Misread::NotUtf8(part)) => return Outcome::ended(NOT_UTF8, part.index()),
+        Err(Misread::Memory) => return Outcome::ended(NO_MEMORY, 0),
+    };
+    match answer_on(alloc, build, &given) {
+        Ok(answer) => written(answer, out),
+        Err(_) => Outcome::ended(NO_MEMORY, 0),
+    }
+}

@@ -1,0 +1,330 @@
+//! The subcommands, each run with the arguments that `clap` parsed.
+
+use crate::explaining::{explained_code, listed_codes};
+use crate::graphs::graph_answer;
+use crate::levels::{command_rules, fails_from};
+use crate::limits::{limit_of, text_of};
+use crate::linting::{LintOptions, lint_each};
+use crate::named::{Named, named_manifests};
+use crate::other_rustc::OtherRustc;
+use crate::styles::{Shown, style_of};
+use crate::target_names::{EVERY, Flagged, flagged_targets, named_targets};
+use cargo_platform::shown_text;
+use clap::ArgMatches;
+use input_limits::{INPUT, Unusable};
+use key_answers::answer::{Answer, Refusal, Status, answered};
+use key_answers::comparing::compare;
+use lint_fixes::Fixing;
+use manifest_answers::faults::SelectionErrors;
+use manifest_answers::given_targets::{FactsFrom, GivenTargets};
+use manifest_answers::questions;
+use manifest_answers::selecting::{Selection, select_each};
+use std::alloc::{AllocError, Global};
+use std::rt::{Env, Files};
+use workspaces::Documents;
+
+/// Returns the value of a required argument.
+fn word<'a>(matches: &ArgMatches<'a>, id: &str) -> &'a str {
+    matches.get_str(id).unwrap_or("")
+}
+
+/// Reads the file that `--facts` names, or standard input, if the option is given.
+fn facts_file<R: Files + Input + AllocGlobal>(
+    rt: &R,
+    matches: &ArgMatches<'_>,
+) -> Result<Option<String>, Refusal> {
+    match matches.get_str("facts") {
+        Some(path) => Ok(Some(text_of(rt, path, limit_of(matches))?)),
+        None => Ok(None),
+    }
+}
+
+/// Reads the targets in the file that `--facts-of` names, or on standard input, if the option is given.
+pub fn given_targets<R: Files + Input + AllocGlobal>(
+    rt: &R,
+    matches: &ArgMatches<'_>,
+) -> Result<Option<GivenTargets>, Refusal> {
+    let Some(path) = matches.get_str("facts-of") else {
+        return Ok(None);
+    };
+    let alloc = rt.alloc();
+    let text = text_of(rt, path, limit_of(matches))?;
+    let file = shown_text(alloc, path)?;
+    Ok(Some(GivenTargets::of(alloc, file, text.as_str())?))
+}
+
+/// Returns the source of the facts of targets, by the options `--facts` and `--facts-of`.
+fn facts_from<'a>(lines: &'a Option<String>, given: &'a Option<GivenTargets>) -> FactsFrom<'a> {
+    match (lines, given) {
+        (_, Some(given)) => FactsFrom::File(given),
+        (Some(lines), None) => FactsFrom::Lines(lines.as_str()),
+        (None, None) => FactsFrom::Known,
+    }
+}
+
+/// Runs `match`.
+fn match_answer<R: Files + Input + AllocGlobal>(
+    rt: &R,
+    matches: &ArgMatches<'_>,
+) -> Result<Answer, Refusal> {
+    let lines = facts_file(rt, matches)?;
+    let given = given_targets(rt, matches)?;
+    let from = facts_from(&lines, &given);
+    let names = named_targets(rt.alloc(), matches, from)?;
+    let added = matches.get_strs("cfg").unwrap_or(&[]);
+    questions::applies_to_each(rt.alloc(), word(matches, "key"), &names, from, added)
+}
+
+/// Returns the target of `select`, if it is the only one, and the output format.
+fn selection_errors<'a>(matches: &ArgMatches<'a>) -> SelectionErrors<'a> {
+    let names = matches.get_strs("target").unwrap_or(&[]);
+    let is_one = names.len() == 1 && word(matches, "target") != EVERY;
+    SelectionErrors {
+        target: if is_one {
+            matches.get_str("target")
+        } else {
+            None
+        },
+        json: matches.get_flag("json"),
+    }
+}
+
+/// Selects dependencies from the selected manifests.
+fn selected_by<R: Files + Input + Env + AllocGlobal + Clone + Drop>(
+    rt: &R,
+    matches: &ArgMatches<'_>,
+    from: FactsFrom<'_>,
+    flagged: &Flagged,
+) -> Result<Answer, Refusal> {
+    let alloc = rt.alloc();
+    let errors = selection_errors(matches);
+    let selection = Selection {
+        errors,
+        open: matches.get_strs("open").unwrap_or(&[]),
+        facts_from: from,
+        host: matches.get_str("host"),
+    };
+    let mut documents = Documents::new(alloc, limit_of(matches));
+    let Named {
+        paths,
+        unusable,
+        warnings,
+    } = named_manifests(rt, &mut documents, matches)?;
+    let mut answer = errors.report_each(alloc, &unusable)?;
+    answer.errors.push_str(warnings.as_str())?;
+    answer.errors.push_str(flagged.notes.as_str())?;
+    let paths: Vec<&str> = paths.iter().map(|path| path.as_str()).collect(alloc)?;
+    let selected = select_each(rt, &mut documents, &paths, &flagged.targets, &selection)?;
+    answer.append(selected)?;
+    Ok(answer)
+}
+
+/// Runs `select`. Fails if an argument or a file that it names is invalid.
+fn select_answer<R: Files + Input + Env + AllocGlobal + Clone + Drop>(
+    rt: &R,
+    matches: &ArgMatches<'_>,
+) -> Result<Answer, Refusal> {
+    let lines = facts_file(rt, matches)?;
+    let given = given_targets(rt, matches)?;
+    let from = facts_from(&lines, &given);
+    let names = named_targets(rt.alloc(), matches, from)?;
+    let flagged = flagged_targets(rt, matches, &names, from)?;
+    selected_by(rt, matches, from, &flagged)
+}
+
+/// Runs `select`, and reports an invalid argument in the output format that is selected.
+fn select_or_report<R: Files + Input + Env + AllocGlobal + Clone + Drop>(
+    rt: &R,
+    matches: &ArgMatches<'_>,
+) -> Result<Answer, AllocError> {
+    match select_answer(rt, matches) {
+        Ok(answer) => Ok(answer),
+        Err(Refusal::Unusable(lines)) => selection_errors(matches).report_arguments(
+            rt.alloc(),
+            lines.as_str(),
+        ),
+        Err(Refusal::Memory(refused)) => Err(refused),
+    }
+}
+
+/// Returns the rustc whose targets count instead of the built-in ones, if `--facts-of` is given.
+fn other_rustc<R: Files + Input + AllocGlobal>(
+    rt: &R,
+    matches: &ArgMatches<'_>,
+) -> Result<Option<OtherRustc>, Refusal> {
+    match given_targets(rt, matches)? {
+        Some(given) => Ok(Some(OtherRustc::of(rt.alloc(), given)?)),
+        None => Ok(None),
+    }
+}
+
+/// Returns a line on the file that `--facts-of` names, or on its targets, as something that can't be used.
+fn unusable_targets(
+    alloc: Global,
+    matches: &ArgMatches<'_>,
+    line: &str,
+) -> Result<Unusable, AllocError> {
+    let line = line.strip_suffix("\n").unwrap_or(line);
+    let file = shown_text(alloc, word(matches, "facts-of"))?;
+    let behind = line.strip_prefix(file.as_str()).unwrap_or(line);
+    let reason = behind.strip_prefix(": ").unwrap_or(behind);
+    let reason = reason.strip_prefix("error: ").unwrap_or(reason);
+    Ok(Unusable {
+        reason: format!(in alloc; "cannot read the targets of `--facts-of`: {reason}")?,
+        file: Some(file),
+    })
+}
+
+/// Returns how suggestions are applied, if `--fix` is given.
+fn fixing_of(matches: &ArgMatches<'_>) -> Option<Fixing> {
+    if !matches.get_flag("fix") {
+        return None;
+    }
+    Some(Fixing {
+        is_dry: matches.get_flag("dry-run"),
+        is_unsafe: matches.get_flag("unsafe-fixes"),
+        is_quiet: matches.get_flag("quiet"),
+    })
+}
+
+/// Returns whether the text on standard input is to be fixed, which can't be written.
+fn fixes_input(matches: &ArgMatches<'_>, paths: &[String]) -> bool {
+    if !matches.get_flag("fix") {
+        return false;
+    }
+    for path in paths {
+        if path.as_str() == INPUT {
+            return true;
+        }
+    }
+    matches.contains_id("stdin-filename")
+}
+
+/// Runs `lint`.
+fn lint_answer<R: Files + Input + Env + AllocGlobal + Clone + Drop>(
+    rt: &R,
+    matches: &ArgMatches<'_>,
+    shown: &Shown<'_>,
+) -> Result<Answer, Refusal> {
+    let alloc = rt.alloc();
+    if matches.get_flag("list-codes") {
+        return Ok(listed_codes(alloc)?);
+    }
+    if let Some(word) = matches.get_str("explain") {
+        return explained_code(alloc, word);
+    }
+    let mut options = LintOptions {
+        style: style_of(rt, matches, shown.on_terminal),
+        version: String::from_str(alloc, shown.version)?,
+        rules: command_rules(alloc, matches)?,
+        is_verbose: matches.get_flag("verbose"),
+        is_quiet: matches.get_flag("quiet"),
+        fails_from: fails_from(matches),
+        is_whole: !matches.contains_id("package") && !matches.contains_id("exclude"),
+        other: None,
+        fixing: fixing_of(matches),
+    };
+    let mut documents = Documents::new(alloc, limit_of(matches));
+    match other_rustc(rt, matches) {
+        Ok(other) => options.other = other,
+        Err(Refusal::Unusable(line)) => {
+            let unusable = [unusable_targets(alloc, matches, line.as_str())?];
+            return Ok(lint_each(rt, &[], &unusable, &options, documents)?);
+        }
+        Err(Refusal::Memory(refused)) => return Err(refused.into()),
+    }
+    let Named {
+        paths,
+        unusable,
+        warnings,
+    } = named_manifests(rt, &mut documents, matches)?;
+    if fixes_input(matches, &paths) {
+        let line = String::from_str(alloc, "error: `--fix` can't change standard input\n")?;
+        return Ok(Answer::unusable(alloc, line));
+    }
+    let mut answer = Answer::of(alloc, String::new(alloc), Status::Fine);
+    answer.errors.push_str(warnings.as_str())?;
+    let paths: Vec<&str> = paths.iter().map(|path| path.as_str()).collect(alloc)?;
+    answer.append(lint_each(rt, &paths, &unusable, &options, documents)?)?;
+    Ok(answer)
+}
+
+/// Runs `compare`.
+fn compare_answer(alloc: Global, matches: &ArgMatches<'_>) -> Result<Answer, Refusal> {
+    let first = word(matches, "first");
+    let second = word(matches, "second");
+    let budget = matches.get_one::<u64>("budget").unwrap_or(0);
+    let mut answer = compare(alloc, first, second, budget, matches.get_flag("json"))?;
+    let hints = questions::unknown_words(alloc, first)?;
+    answer.errors.push_str(hints.as_str())?;
+    if second != first {
+        let hints = questions::unknown_words(alloc, second)?;
+        answer.errors.push_str(hints.as_str())?;
+    }
+    Ok(answer)
+}
+
+/// Runs `targets`.
+fn targets_answer<R: Files + Input + AllocGlobal>(
+    rt: &R,
+    matches: &ArgMatches<'_>,
+) -> Result<Answer, Refusal> {
+    let key = word(matches, "key");
+    let json = matches.get_flag("json");
+    match given_targets(rt, matches)? {
+        Some(given) => questions::targets_in(rt.alloc(), key, &given, json),
+        None => questions::targets(rt.alloc(), key, json),
+    }
+}
+
+/// Runs `facts`.
+fn facts_answer<R: Files + Input + AllocGlobal>(
+    rt: &R,
+    matches: &ArgMatches<'_>,
+) -> Result<Answer, Refusal> {
+    let name = word(matches, "name");
+    match given_targets(rt, matches)? {
+        Some(given) => questions::facts_in(rt.alloc(), name, &given),
+        None => Ok(questions::facts(rt.alloc(), name)?),
+    }
+}
+
+/// Runs `targets`, `facts` or `compare`.
+fn question_answer<R: Files + Input + AllocGlobal>(
+    rt: &R,
+    matches: &ArgMatches<'_>,
+) -> Result<Answer, AllocError> {
+    let alloc = rt.alloc();
+    if let Some(m) = matches.subcommand_matches("targets") {
+        return answered(alloc, targets_answer(rt, m));
+    }
+    if let Some(m) = matches.subcommand_matches("facts") {
+        return answered(alloc, facts_answer(rt, m));
+    }
+    if let Some(m) = matches.subcommand_matches("compare") {
+        return answered(alloc, compare_answer(alloc, m));
+    }
+    let text = String::from_str(alloc, "error: no such subcommand\n")?;
+    Ok(Answer::unusable(alloc, text))
+}
+
+/// Runs the subcommand of the command line, and returns its output and exit status.
+pub fn answer_to<R: Files + Input + Env + AllocGlobal + Clone + Drop>(
+    rt: &R,
+    matches: &ArgMatches<'_>,
+    shown: &Shown<'_>,
+) -> Result<Answer, AllocError> {
+    if let Some(m) = matches.subcommand_matches("lint") {
+        return answered(rt.alloc(), lint_answer(rt, m, shown));
+    }
+    if let Some(m) = matches.subcommand_matches("select") {
+        return select_or_report(rt, m);
+    }
+    if let Some(m) = matches.subcommand_matches("graph") {
+        return graph_answer(rt, m);
+    }
+    if let Some(m) = matches.subcommand_matches("match") {
+        return answered(rt.alloc(), match_answer(rt, m));
+    }
+    question_answer(rt, matches)
+}

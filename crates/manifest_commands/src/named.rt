@@ -1,0 +1,110 @@
+//! The manifests that a command line selects.
+
+use cargo_platform::shown_text;
+use clap::ArgMatches;
+use input_limits::{INPUT, Unusable, given_within};
+use manifests::reading::ReadError;
+use std::alloc::{AllocError, Global};
+use std::rt::{Env, Files};
+use workspaces::{Documents, Found, ManifestSelection, find, put_text};
+
+/// The paths of the selected manifests, and the errors for those that can't be found.
+#[derive(Drop)]
+pub struct Named {
+    pub paths: Vec<String>,
+    pub unusable: Vec<Unusable>,
+    /// A warning a line.
+    pub warnings: String,
+}
+
+impl Named {
+    /// Returns no manifest, but an error.
+    fn unusable(alloc: Global, unusable: Unusable) -> Result<Named, AllocError> {
+        Ok(Named {
+            paths: Vec::new(alloc),
+            unusable: vec![in alloc; unusable]?,
+            warnings: String::new(alloc),
+        })
+    }
+}
+
+/// Returns the values of an argument.
+fn values(alloc: Global, matches: &ArgMatches<'_>, id: &str) -> Result<Vec<String>, AllocError> {
+    let mut found = Vec::new(alloc);
+    for value in matches.get_strs(id).unwrap_or(&[]) {
+        found.push(String::from_str(alloc, value)?)?;
+    }
+    Ok(found)
+}
+
+/// Removes standard input from the arguments that name manifests.
+fn leave_out_input(files: &mut Vec<String>) {
+    files.retain(|file| file.as_str() != INPUT);
+}
+
+/// Reads standard input as the manifest at a path, which is put into `documents`. Returns the path of the manifest.
+/// Fails if standard input cannot be used.
+fn manifest_given<R: Files + Input + AllocGlobal>(
+    rt: &R,
+    documents: &mut Documents,
+    path: &str,
+) -> Result<String, ReadError> {
+    let alloc = rt.alloc();
+    match given_within(rt, INPUT, documents.limit) {
+        Ok(text) => Ok(put_text(rt, documents, path, text)?),
+        Err(error) => {
+            let path = shown_text(alloc, path)?;
+            let refused = Unusable::refused(alloc, path, &error, documents.limit)?;
+            let reason = refused.reason.as_str();
+            let reason = format!(in alloc; "cannot read standard input: {reason}")?;
+            Err(ReadError::Unusable(Unusable {
+                file: refused.file,
+                reason,
+            }))
+        }
+    }
+}
+
+/// Returns what the arguments say of manifests.
+fn selection_by(alloc: Global, matches: &ArgMatches<'_>) -> Result<ManifestSelection, AllocError> {
+    Ok(ManifestSelection {
+        paths: values(alloc, matches, "manifest-path")?,
+        manifests: values(alloc, matches, "manifest")?,
+        packages: values(alloc, matches, "package")?,
+        excluded: values(alloc, matches, "exclude")?,
+        whole: matches.get_flag("workspace"),
+        alone: matches.get_flag("no-workspace"),
+    })
+}
+
+/// Finds the selected manifests: those that the arguments name, or else the one in the current folder or in the nearest
+/// folder above. The root of a workspace selects its members too. With `--stdin-filename`, standard input is the
+/// manifest at that path. The manifests that are read for this are kept in `documents`.
+pub fn named_manifests<R: Files + Input + Env + AllocGlobal + Clone + Drop>(
+    rt: &R,
+    documents: &mut Documents,
+    matches: &ArgMatches<'_>,
+) -> Result<Named, AllocError> {
+    let alloc = rt.alloc();
+    let mut selection = selection_by(alloc, matches)?;
+    if let Some(path) = matches.get_str("stdin-filename") {
+        match manifest_given(rt, documents, path) {
+            Ok(file) => {
+                leave_out_input(&mut selection.paths);
+                leave_out_input(&mut selection.manifests);
+                selection.paths.push(file)?;
+            }
+            Err(error) => return Named::unusable(alloc, error.unusable(alloc)?),
+        }
+    }
+    let Found {
+        paths,
+        unusable,
+        warnings,
+    } = find(rt, documents, &selection)?;
+    Ok(Named {
+        paths,
+        unusable,
+        warnings,
+    })
+}

@@ -1,0 +1,249 @@
+//! The report of `graph` on the output of `cargo metadata`.
+
+use cargo_platform::shown_text;
+use graph_answers::bill_of_materials::{Bill, misplaced_format, show_bill};
+use graph_answers::{
+    Audit, AuditPolicy, GivenPolicy, GraphNames, arguments_by_policy, exclude, kinds_of, page_of,
+    policy_of, reported_in, show_changes, show_licences,
+};
+use graph_lines::show;
+use graph_queries::graph::Graph;
+use graph_queries::query::{GraphArguments, GraphQuery, unusable_words};
+use graph_queries::reading::{Input, Rejected, document_of, graph_in, graph_of};
+use key_answers::answer::{Answer, Refusal, Status, answered};
+use selected_targets::{TableSelection, grouped};
+use serde_json::Value;
+use std::alloc::{AllocError, Global};
+
+/// The output, and the HTML page if one is requested and there is an answer.
+#[derive(Drop)]
+pub struct Report {
+    pub answer: Answer,
+    pub page: Option<String>,
+}
+
+impl Report {
+    /// Returns a report without a page.
+    fn without_page(answer: Answer) -> Report {
+        Report { answer, page: None }
+    }
+}
+
+/// The arguments after they are checked.
+#[derive(Drop)]
+struct Request<'a, 'b> {
+    query: GraphQuery<'a>,
+    /// The targets of `--facts-of`.
+    table: Option<TableSelection<'a>>,
+    kind: Kind<'a, 'b>,
+}
+
+/// What is reported on a graph, if that is not what `--show` says.
+#[derive(Drop)]
+struct Kind<'a, 'b> {
+    audit: Option<Audit<'a>>,
+    bill: Option<Bill<'b>>,
+}
+
+/// Checks the arguments, with the policy if there is one.
+fn request_of<'a, 'b>(
+    alloc: Global,
+    arguments: &GraphArguments<'a>,
+    bill: Option<Bill<'b>>,
+    policy: Option<AuditPolicy>,
+) -> Result<Request<'a, 'b>, Refusal> {
+    if bill.is_some() {
+        if let Some(text) = misplaced_format(arguments) {
+            return Err(unusable_words(alloc, text));
+        }
+    }
+    let query = GraphQuery::of(alloc, arguments)?;
+    let table = match arguments.facts_of {
+        Some((file, table)) => {
+            Some(TableSelection::of(alloc, file, table, arguments.targets, arguments.host)?)
+        }
+        None => None,
+    };
+    Ok(Request {
+        query,
+        table,
+        kind: Kind {
+            audit: Audit::of(alloc, arguments, policy)?,
+            bill,
+        },
+    })
+}
+
+/// Returns the report on a graph.
+fn report_on_graph(
+    alloc: Global,
+    file: &str,
+    graph: &Graph<'_>,
+    query: &GraphQuery<'_>,
+    audit: &Option<Audit<'_>>,
+) -> Result<Report, AllocError> {
+    let answer = match audit {
+        Some(audit) => show_licences(alloc, &*graph, &*query, audit)?,
+        None => show(alloc, file, graph, query)?,
+    };
+    let made = match query.html {
+        Some(made) if answer.status != Status::Unusable => made,
+        _ => return Ok(Report::without_page(answer)),
+    };
+    let reported = reported_in(alloc, graph, query, audit)?;
+    let page = page_of(alloc, graph, query, made, &reported)?;
+    Ok(Report {
+        answer,
+        page: Some(page),
+    })
+}
+
+/// Returns the bill of materials of a graph if one is requested, or else the report on the graph.
+fn report_of_kind<'a>(
+    alloc: Global,
+    (file, document): (&str, &'a Value),
+    graph: &Graph<'a>,
+    query: &GraphQuery<'_>,
+    kind: &Kind<'_, '_>,
+) -> Result<Report, Rejected> {
+    match &kind.bill {
+        Some(bill) => {
+            let answer = show_bill(alloc, document, graph, query, bill)?;
+            Ok(Report::without_page(answer))
+        }
+        None => Ok(report_on_graph(alloc, file, graph, query, &kind.audit)?),
+    }
+}
+
+/// Returns the report on a document that was parsed as JSON.
+fn report_on_document(
+    alloc: Global,
+    file: &str,
+    document: &Value,
+    request: Request<'_, '_>,
+) -> Result<Report, Rejected> {
+    let Request { query, table, kind } = request;
+    let source = (file, document);
+    let mut input = Input::of(alloc, document, query.packages)?;
+    if let Some(audit) = &kind.audit {
+        exclude(alloc, &mut input.linked, audit.excluded())?;
+    }
+    match table {
+        Some(table) => {
+            let Input {
+                document,
+                metadata,
+                mut linked,
+                declared,
+            } = input;
+            let groups = grouped(alloc, table, &metadata, &mut linked)?;
+            let query = query.in_groups(&groups);
+            let input = Input {
+                document,
+                metadata,
+                linked,
+                declared,
+            };
+            let graph = graph_of(alloc, input, &query)?;
+            report_of_kind(alloc, source, &graph, &query, &kind)
+        }
+        None => {
+            let graph = graph_of(alloc, input, &query)?;
+            report_of_kind(alloc, source, &graph, &query, &kind)
+        }
+    }
+}
+
+/// Returns the result, with the name of the file in the message of an error.
+fn of_file<T>(alloc: Global, file: &str, found: Result<T, Rejected>) -> Result<T, Refusal> {
+    match found {
+        Ok(found) => Ok(found),
+        Err(rejected) => Err(rejected.in_file(alloc, file)),
+    }
+}
+
+/// Returns the report on what has changed since an older output of `cargo metadata`: its name and its text.
+fn report_against(
+    alloc: Global,
+    document: &Value,
+    query: &GraphQuery<'_>,
+    fail_on: Option<&str>,
+    against: (&str, &str),
+) -> Result<Report, Rejected> {
+    let (old_file, old_text) = against;
+    let failing = kinds_of(alloc, fail_on)?;
+    let old_file = shown_text(alloc, old_file)?;
+    let old_document = of_file(alloc, old_file.as_str(), document_of(alloc, old_text))?;
+    let old = graph_in(alloc, &old_document, query);
+    let old = of_file(alloc, old_file.as_str(), old)?;
+    let new = graph_in(alloc, document, query)?;
+    let answer = show_changes(alloc, &old, &new, query, failing)?;
+    Ok(Report::without_page(answer))
+}
+
+/// Returns the report on the output of `cargo metadata`, by the policy of the arguments if there is one.
+fn report_on_text(
+    alloc: Global,
+    file: &str,
+    text: &str,
+    arguments: &GraphArguments<'_>,
+    bill: Option<Bill<'_>>,
+) -> Result<Report, Refusal> {
+    let Some(policy) = policy_of(alloc, arguments)? else {
+        let request = request_of(alloc, arguments, bill, None)?;
+        return report_by(alloc, file, text, arguments, request);
+    };
+    let GivenPolicy { graph, audit } = policy;
+    let names = GraphNames::of(alloc, &graph)?;
+    let targets = names.targets.as_slice();
+    let features = names.features.as_slice();
+    let arguments = GraphArguments { ..*arguments };
+    let arguments = arguments_by_policy(
+        &arguments,
+        targets,
+        features,
+        &graph,
+        audit.table.includes_dev,
+    );
+    let request = request_of(alloc, &arguments, bill, Some(audit))?;
+    report_by(alloc, file, text, &arguments, request)
+}
+
+/// Returns the report of a request on the output of `cargo metadata`.
+fn report_by(
+    alloc: Global,
+    file: &str,
+    text: &str,
+    arguments: &GraphArguments<'_>,
+    request: Request<'_, '_>,
+) -> Result<Report, Refusal> {
+    let file = shown_text(alloc, file)?;
+    let document = of_file(alloc, file.as_str(), document_of(alloc, text))?;
+    let report = match arguments.against {
+        Some(against) => report_against(
+            alloc,
+            &document,
+            &request.query,
+            arguments.fail_on,
+            against,
+        ),
+        None => report_on_document(alloc, file.as_str(), &document, request),
+    };
+    of_file(alloc, file.as_str(), report)
+}
+
+/// Returns the report on `text`, the output of `cargo metadata`, for the given arguments, or the bill of materials if
+/// there is `bill`. Messages name `file` as its source. Invalid arguments and documents are reported in the answer; the
+/// call fails only if memory is refused.
+pub fn report_on(
+    alloc: Global,
+    file: &str,
+    text: &str,
+    arguments: &GraphArguments<'_>,
+    bill: Option<Bill<'_>>,
+) -> Result<Report, AllocError> {
+    match report_on_text(alloc, file, text, arguments, bill) {
+        Ok(report) => Ok(report),
+        Err(refusal) => Ok(Report::without_page(answered(alloc, Err(refusal))?)),
+    }
+}

@@ -1,0 +1,173 @@
+//! The roots of workspaces, as `lint` meets them: their rules, and what their members inherit.
+
+use diagnostics::{Occurrence, Rule, Setting};
+use former_names::Release;
+use input_limits::INPUT;
+use lint_reports::Settings;
+use std::alloc::{AllocError, Global};
+use std::rt::{Env, Files};
+use toml::{Table, Value};
+use workspaces::{Document, Documents, Inheritable, inherits_lints, root_of, shorter};
+
+/// The root of a workspace.
+#[derive(Drop)]
+pub struct Root {
+    /// The path of its manifest.
+    pub file: String,
+    pub settings: Settings,
+    /// For each rule, whether a diagnostic needs it.
+    pub needed: Vec<bool>,
+    inheritable: Inheritable,
+    /// True if its manifest is selected too.
+    pub is_selected: bool,
+    /// True if the last manifest inherits lints from it that can't be read.
+    pub hides_lints: bool,
+}
+
+/// Returns the table of the manifest of a root, if it has a workspace.
+fn table_of(document: Option<&Document>) -> Option<&Table> {
+    document?.table_with("workspace")
+}
+
+/// Returns what the manifest of a root sets for its workspace.
+fn settings_in(alloc: Global, document: Option<&Document>) -> Result<Settings, AllocError> {
+    match table_of(document) {
+        Some(table) => Settings::in_part(alloc, table, "workspace"),
+        None => Settings::of(alloc, None),
+    }
+}
+
+/// Returns the rules of a root, and for each that no diagnostic needs it yet.
+fn settings_of(
+    alloc: Global,
+    document: Option<&Document>,
+) -> Result<(Settings, Vec<bool>), AllocError> {
+    let settings = settings_in(alloc, document)?;
+    let mut needed = Vec::new(alloc);
+    for _ in &settings.rules {
+        needed.push(false)?;
+    }
+    Ok((settings, needed))
+}
+
+impl Root {
+    /// Returns the root of no workspace, without rules.
+    pub fn none(alloc: Global) -> Result<Root, AllocError> {
+        Root::at(alloc, String::new(alloc), None)
+    }
+
+    /// Returns the root with this manifest, or with none.
+    fn at(alloc: Global, file: String, document: Option<&Document>) -> Result<Root, AllocError> {
+        let (settings, needed) = settings_of(alloc, document)?;
+        let inheritable = match document {
+            Some(document) => Inheritable::of(alloc, document)?,
+            None => Inheritable::none(),
+        };
+        Ok(Root {
+            file,
+            settings,
+            needed,
+            inheritable,
+            is_selected: false,
+            hides_lints: false,
+        })
+    }
+
+    /// Returns the root to which the manifest at this path belongs, or none if that is `current`.
+    pub fn of<R: Files + Env + AllocGlobal>(
+        rt: &R,
+        documents: &mut Documents,
+        path: &str,
+        current: &Root,
+    ) -> Result<Option<Root>, AllocError> {
+        let alloc = rt.alloc();
+        let file = if path == INPUT {
+            String::from_str(alloc, INPUT)?
+        } else {
+            let file = root_of(rt, documents, path)?;
+            shorter(alloc, file.as_str())?
+        };
+        if file.as_str() == current.file.as_str() {
+            return Ok(None);
+        }
+        let document = documents.get(rt, file.as_str())?;
+        Ok(Some(Root::at(alloc, file, document)?))
+    }
+
+    /// Returns whether there is something to report on its rules: an invalid one or, if `is_whole`, one that is not
+    /// needed.
+    pub fn has_diagnostics(&self, is_whole: bool) -> bool {
+        let mut unneeded = self.settings.rules.iter().zip(&self.needed);
+        !self.settings.faults.is_empty()
+            || is_whole && unneeded.any(|(rule, is_needed)| is_unneeded(rule, *is_needed))
+    }
+
+    /// Reads its settings again, from which entries that nothing needs have been removed. Of the rules that are left,
+    /// those are needed that were needed before.
+    pub fn read_again<R: Files + AllocGlobal>(
+        &mut self,
+        rt: &R,
+        documents: &mut Documents,
+    ) -> Result<(), AllocError> {
+        let alloc = rt.alloc();
+        let document = documents.get(rt, self.file.as_str())?;
+        let settings = settings_in(alloc, document)?;
+        let mut needed = Vec::new(alloc);
+        for rule in &settings.rules {
+            needed.push(self.needs(rule))?;
+        }
+        self.settings = settings;
+        self.needed = needed;
+        Ok(())
+    }
+
+    /// Returns whether a diagnostic needs a rule of these properties.
+    fn needs(&self, rule: &Rule) -> bool {
+        let mut rules = self.settings.rules.iter().zip(&self.needed);
+        rules.any(|(other, is_needed)| *is_needed && is_same_rule(other, rule))
+    }
+
+    /// Returns whether its manifest is the one at a path.
+    pub fn is_at(&self, alloc: Global, path: &str) -> Result<bool, AllocError> {
+        let path = shorter(alloc, path)?;
+        Ok(path.as_str() == self.file.as_str())
+    }
+
+    /// Returns the lints of a configuration, which belongs to no package.
+    pub fn configuration_lints(&self) -> Result<Option<Value>, AllocError> {
+        self.inheritable.lints_outside_packages()
+    }
+
+    /// Puts the root's lints in place of those of a manifest that inherits lints, and records whether there was a root
+    /// to inherit from.
+    pub fn put_lints(&mut self, alloc: Global, manifest: &mut Table) -> Result<(), AllocError> {
+        self.hides_lints = inherits_lints(manifest) && !self.inheritable.is_workspace;
+        self.inheritable.put_lints(alloc, manifest)
+    }
+
+    /// Returns the `rust-version` of a manifest's package, its own or the inherited one.
+    pub fn rust_version_of(&self, manifest: &Table) -> Option<Release> {
+        Release::of(self.inheritable.rust_version_of(manifest)?)
+    }
+
+    /// Records which of its rules these diagnostics need.
+    pub fn note_needed(&mut self, found: &[Occurrence<'_>]) {
+        for (rule, needed) in self.settings.rules.iter().zip(&mut self.needed) {
+            if rule.is_needed(found) {
+                *needed = true;
+            }
+        }
+    }
+}
+
+/// Returns whether two rules set the same for the same diagnostics.
+fn is_same_rule(first: &Rule, second: &Rule) -> bool {
+    first.setting == second.setting
+        && first.subject.word() == second.subject.word()
+        && first.key == second.key
+}
+
+/// Returns whether a rule allows something that no diagnostic needs.
+pub fn is_unneeded(rule: &Rule, is_needed: bool) -> bool {
+    rule.setting == Setting::Allow && !is_needed
+}
