@@ -22,11 +22,16 @@ static void expect(int is_so, const char *what, const char *of) {
     }
 }
 
+/* Some bytes. */
+typedef struct {
+    const uint8_t *at;
+    size_t size;
+} bytes;
+
 /* What a call is asked: up to three texts. */
 typedef struct {
     const char *name;
-    const uint8_t *texts[3];
-    size_t lengths[3];
+    bytes texts[3];
 } question;
 
 typedef uint32_t call(const question *, uint8_t *, size_t, nevgrasi_outcome *);
@@ -34,10 +39,15 @@ typedef uint32_t call(const question *, uint8_t *, size_t, nevgrasi_outcome *);
 /* How many splits a comparison may make. */
 static _Thread_local uint64_t splits = 1000;
 
-#define TEXT(k) q->texts[k], q->lengths[k]
+#define TEXT(k) q->texts[k].at, q->texts[k].size
 #define CALL(export, ...) \
     static uint32_t export(const question *q, uint8_t *out, size_t size, nevgrasi_outcome *o) { \
         return nevgrasi_##export(__VA_ARGS__, out, size, o); \
+    }
+#define CALL_WITHOUT_TEXT(export, ...) \
+    static uint32_t export(const question *q, uint8_t *out, size_t size, nevgrasi_outcome *o) { \
+        (void)out, (void)size; \
+        return nevgrasi_##export(__VA_ARGS__, o); \
     }
 CALL(canonical, TEXT(0))
 CALL(fault, TEXT(0))
@@ -49,39 +59,51 @@ CALL(equivalent, TEXT(0), TEXT(1), splits)
 CALL(excludes, TEXT(0), TEXT(1), splits)
 CALL(can_hold, TEXT(0), splits)
 CALL(matches, TEXT(0), TEXT(1), TEXT(2))
+CALL(prepare_facts, TEXT(0))
 CALL(targets, TEXT(0), (uint64_t[NEVGRASI_WORDS]){0})
 CALL(graph, TEXT(0), TEXT(1))
-CALL(target_name, q->lengths[1])
+CALL(run, TEXT(0), TEXT(1))
+CALL(target_name, q->texts[1].size)
+CALL_WITHOUT_TEXT(flat_matches, TEXT(0), TEXT(1), TEXT(2))
+CALL_WITHOUT_TEXT(prepared_matches, TEXT(0), TEXT(1), TEXT(2))
 static uint32_t version(const question *q, uint8_t *out, size_t size, nevgrasi_outcome *o) {
     (void)q;
     return nevgrasi_version(out, size, o);
 }
-static uint32_t flat_matches(const question *q, uint8_t *out, size_t size, nevgrasi_outcome *o) {
-    (void)out, (void)size;
-    return nevgrasi_flat_matches(TEXT(0), TEXT(1), TEXT(2), o);
-}
 
 /* Bytes of their own block, so that AddressSanitizer sees a read past them. */
-static const uint8_t *copied(const void *bytes, size_t size) {
+static bytes copied(const void *from, size_t size) {
     uint8_t *copy = malloc(size);
-    if (size) memcpy(copy, bytes, size);
-    return copy;
+    if (size) memcpy(copy, from, size);
+    return (bytes){copy, size};
 }
 
 /* A question of up to three texts; those that are left out are empty. */
 #define ASKED(name, ...) asked(name, (const char *[3]){__VA_ARGS__})
 static question asked(const char *name, const char **texts) {
-    question q = {name, {0}, {0}};
-    for (int k = 0; k < 3; k++) {
-        q.lengths[k] = texts[k] ? strlen(texts[k]) : 0;
-        q.texts[k] = copied(texts[k], q.lengths[k]);
-    }
+    question q = {name, {{0}}};
+    for (int k = 0; k < 3; k++) q.texts[k] = copied(texts[k], texts[k] ? strlen(texts[k]) : 0);
     return q;
 }
 
 static void let_go(question *q) {
-    for (int k = 0; k < 3; k++) free((void *)q->texts[k]);
+    for (int k = 0; k < 3; k++) free((void *)q->texts[k].at);
 }
+
+/* What a call answers, in a block of its own length. */
+static bytes answered(call *made, question q) {
+    nevgrasi_outcome o;
+    made(&q, NULL, 0, &o);
+    size_t size = o.needed;
+    uint8_t *answer = calloc(size, 1);
+    made(&q, answer, size, &o);
+    let_go(&q);
+    return (bytes){answer, size};
+}
+
+/* The flat form of a key, and the prepared form of lines of facts. */
+static bytes flat_of(const char *key) { return answered(read_key, ASKED("read_key", key)); }
+static bytes prepared_of(const char *lines) { return answered(prepare_facts, ASKED("prepare_facts", lines)); }
 
 /* malloc refuses the allocation of this number, and none where it is 0. Only this file's first thread counts. */
 static _Thread_local long refused, counted;
@@ -136,8 +158,8 @@ static void try_sizes(call *made, const question *q, uint32_t code, const char *
     }
 }
 
-/* Each allocation of the call refused in turn: the code is NO_MEMORY, and no block is kept. */
-static void refuse_each(call *made, const question *q) {
+/* Each allocation of the call refused in turn: the code is NO_MEMORY or another one, and no block is kept. */
+static void refuse_each(call *made, const question *q, uint32_t other) {
     uint8_t out[4096] = {0};
     for (long number = 1;; number++) {
         nevgrasi_outcome o;
@@ -148,14 +170,14 @@ static void refuse_each(call *made, const question *q) {
         refused = 0;
         expect(held == before, "a block is kept", q->name);
         if (is_past) return;
-        expect(code == NEVGRASI_NO_MEMORY, "a refused allocation is passed over", q->name);
-        expect_zeros(&o, q->name);
+        expect(code == NEVGRASI_NO_MEMORY || code == other, "a refused allocation is passed over", q->name);
+        if (code == NEVGRASI_NO_MEMORY) expect_zeros(&o, q->name);
     }
 }
 
 static void try_call(call *made, question q, uint32_t code, const char *answer) {
     try_sizes(made, &q, code, answer);
-    refuse_each(made, &q);
+    refuse_each(made, &q, NEVGRASI_NO_MEMORY);
     let_go(&q);
 }
 
@@ -217,61 +239,35 @@ static void try_deep_graph(size_t levels, uint32_t code) {
     free(document);
 }
 
-static void try_graph(void) {
-    try_call(graph, ASKED("graph", DOCUMENT), NEVGRASI_DONE, PACKAGES);
-    try_call(graph, ASKED("graph on a host", DOCUMENT, "x86_64-unknown-linux-gnu"), NEVGRASI_DONE, PACKAGES);
-    try_call(graph, ASKED("graph on no target", DOCUMENT, "x"), NEVGRASI_UNKNOWN_TARGET, "");
-    try_call(graph, ASKED("graph of no text", "\xFF"), NEVGRASI_NOT_UTF8, "");
-    try_call(graph, ASKED("graph of no JSON", "["), NEVGRASI_REFUSED, NULL);
-    try_call(graph, ASKED("graph of nothing", ""), NEVGRASI_REFUSED, NULL);
-    try_call(graph, ASKED("graph of another document", "{\"version\": 1}"), NEVGRASI_REFUSED,
-             "packages: a list is wanted");
+static void try_deep_graphs(void) {
     try_deep_graph(NEVGRASI_MOST_OPEN - 1, NEVGRASI_DONE);
     try_deep_graph(NEVGRASI_MOST_OPEN, NEVGRASI_TOO_DEEP);
     try_deep_graph(100 * NEVGRASI_MOST_OPEN, NEVGRASI_TOO_DEEP);
 }
 
-/* What hangs on the fact `a`, of which nothing is known, takes a split at least. */
-static void try_budget(void) {
-    splits = 0;
-    try_call(implies, ASKED("implies without splits", "cfg(a)", "cfg(b)"), NEVGRASI_UNDECIDED, "");
-    try_call(equivalent, ASKED("equivalent without splits", "cfg(a)", "cfg(b)"), NEVGRASI_UNDECIDED, "");
-    try_call(excludes, ASKED("excludes without splits", "cfg(a)", "cfg(b)"), NEVGRASI_UNDECIDED, "");
-    try_call(can_hold, ASKED("can_hold without splits", "cfg(a)"), NEVGRASI_UNDECIDED, "");
-    splits = 1000;
+/* A command on these arguments and files, each ended by a NUL of the array: its code, its exit status, its output and
+   the first byte of its errors. Where an allocation is refused, the command may do without it; no block is kept. */
+#define RUN(code, argument, output, arguments, files) \
+    try_run(code, argument, output, \
+            (question){arguments, {copied(arguments, sizeof arguments), copied(files, sizeof files - 1)}})
+static void try_run(uint32_t code, uint32_t argument, const char *output, question q) {
+    uint8_t out[4096] = {0};
+    nevgrasi_outcome o;
+    expect(run(&q, out, sizeof out, &o) == code, "another code", q.name);
+    expect(o.argument == argument, "another status", q.name);
+    expect(o.needed >= strlen(output) && !memcmp(out, output, strlen(output)), "another output", q.name);
+    expect(code != NEVGRASI_DONE || (o.start == strlen(output) && o.end == o.needed), "another end", q.name);
+    refuse_each(run, &q, code);
+    let_go(&q);
 }
 
-static void try_answers(void) {
-    try_call(version, ASKED("version", ""), NEVGRASI_DONE, NULL);
-    try_call(canonical, ASKED("canonical", KEY), NEVGRASI_DONE, "cfg(all(unix, not(target_os = \"macos\")))");
-    try_call(canonical, ASKED("canonical of nothing", ""), NEVGRASI_DONE, "");
-    try_call(canonical, ASKED("canonical, refused", "cfg(all(a b))"), NEVGRASI_REFUSED,
-             "failed to parse `all(a b)` as a cfg expression: expected `)`, found an identifier");
-    try_call(canonical, ASKED("canonical of no text", "cfg(\xFF)"), NEVGRASI_NOT_UTF8, "");
-    try_call(fault, ASKED("fault", "cfg(all(a b))"), NEVGRASI_REFUSED,
-             "cfg(all(a b))\n          ^ expected `)`, found an identifier");
-    try_call(fault, ASKED("fault of none", "cfg(a)"), NEVGRASI_DONE, "");
-    try_call(matches, ASKED("matches", KEY, "x", "unix\n"), NEVGRASI_DONE, "");
-    try_call(matches, ASKED("matches, a line refused", KEY, "x", "unix\n=\n"), NEVGRASI_REFUSED,
-             "line 2: failed to parse `=` as a cfg expression: expected identifier, found `=`");
-    try_call(matches, ASKED("matches, no text", KEY, "\xFF"), NEVGRASI_NOT_UTF8, "");
-    try_call(targets, ASKED("targets", KEY), NEVGRASI_DONE, "");
-    try_call(target_name, ASKED("target_name", ""), NEVGRASI_DONE, "aarch64-apple-darwin");
-    try_call(facts, ASKED("facts", "x86_64-unknown-linux-gnu"), NEVGRASI_DONE, NULL);
-    try_call(facts, ASKED("facts of none", "x86"), NEVGRASI_UNKNOWN_TARGET, "");
-    try_call(implies, ASKED("implies", "cfg(all(a, b))", "cfg(a)"), NEVGRASI_DONE, "");
-    try_example(implies, ASKED("implies, an example", "cfg(a)", "cfg(b)"), 0, "a", NULL);
-    try_example(implies, ASKED("implies, a name", "x", "y"), 1, "x", NULL);
-    try_example(implies, ASKED("implies, a name and a fact", "x", "cfg(not(a))"), 1, "x", "a");
-    try_example(implies, ASKED("implies, a value of two lines", "cfg(a = \"\nb\n\")", "cfg(b)"), 0,
-                "a = \"\nb\n\"", NULL);
-    try_call(implies, ASKED("implies, the second refused", "cfg(a)", "cfg("), NEVGRASI_REFUSED, NULL);
-    try_call(equivalent, ASKED("equivalent", "cfg(a)", "cfg(all(a))"), NEVGRASI_DONE, "");
-    try_call(excludes, ASKED("excludes", "cfg(a)", "cfg(not(a))"), NEVGRASI_DONE, "");
-    try_example(can_hold, ASKED("can_hold", "cfg(a)"), 0, "a", NULL);
-    try_example(can_hold, ASKED("can_hold, no name", "cfg(not(a))"), 0, NULL, NULL);
-    try_call(read_key, ASKED("read_key", KEY), NEVGRASI_DONE, NULL);
-    try_call(flat_print, ASKED("flat_print of no tree", "x"), NEVGRASI_NOT_FLAT, "");
+static void try_runs(void) {
+    RUN(NEVGRASI_DONE, 1, "no\n", "match\0--target\0avr-none\0cfg(unix)", "");
+    RUN(NEVGRASI_DONE, 0, "Cargo.toml: a (target.'cfg(unix)'.dependencies): left out\n",
+        "select\0--target\0avr-none", "Cargo.toml\00042\0[target.'cfg(unix)'.dependencies]\na = \"1\"\n");
+    RUN(NEVGRASI_DONE, 2, "", "graph", "-\0001\0[");
+    RUN(NEVGRASI_REFUSED, 1, "a file is not", "lint", "Cargo.toml\0002\0[");
+    RUN(NEVGRASI_NOT_UTF8, 0, "", "\xFF", "");
 }
 
 /* Where a call has several texts, it tells of which one is refused, and where in it. */
@@ -283,61 +279,51 @@ static void try_place(call *made, question q, uint32_t code, uint32_t argument, 
     let_go(&q);
 }
 
-static void try_places(void) {
-    try_place(canonical, ASKED("a key", "cfg(all(a b))"), NEVGRASI_REFUSED, 0, 10, 11);
-    try_place(fault, ASKED("a key, shown", "cfg(all(a b))"), NEVGRASI_REFUSED, 0, 10, 11);
-    try_place(matches, ASKED("a key of matches", "a b"), NEVGRASI_REFUSED, 0, 1, 2);
-    try_place(matches, ASKED("a name", "a", "\xFF"), NEVGRASI_NOT_UTF8, 1, 0, 0);
-    try_place(matches, ASKED("lines", "a", "", "\xFF"), NEVGRASI_NOT_UTF8, 2, 0, 0);
-    try_place(matches, ASKED("a line", "a", "", "unix\n=\n"), NEVGRASI_REFUSED, 2, 5, 6);
-    try_place(implies, ASKED("a first key", "a b", "a b"), NEVGRASI_REFUSED, 0, 1, 2);
-    try_place(implies, ASKED("a second key", "a", "cfg(a b)"), NEVGRASI_REFUSED, 1, 6, 7);
-    try_place(excludes, ASKED("a second key, no text", "a", "\xC3"), NEVGRASI_NOT_UTF8, 1, 0, 0);
-    try_place(graph, ASKED("a host", DOCUMENT, "\xFF"), NEVGRASI_NOT_UTF8, 1, 0, 0);
-    try_place(graph, ASKED("a host, unknown", DOCUMENT, "x"), NEVGRASI_UNKNOWN_TARGET, 1, 0, 0);
-    try_place(flat_matches, ASKED("flat bytes", "x"), NEVGRASI_NOT_FLAT, 0, 0, 0);
+/* The rows of crates/nevgrasi_c/calls.json, of which `.ci/c-library` makes calls of the functions above. */
+static void try_rows(void) {
+#include "rows.h"
 }
 
-/* The flat form of a key, in a block of its own length. */
-static uint8_t *flat_of(const char *key, size_t *size) {
-    nevgrasi_outcome o;
-    nevgrasi_read_key((const uint8_t *)key, strlen(key), NULL, 0, &o);
-    uint8_t *flat = calloc(o.needed, 1);
-    nevgrasi_read_key((const uint8_t *)key, strlen(key), flat, o.needed, &o);
-    *size = o.needed;
-    return flat;
-}
-
-/* Flat bytes with each byte changed in turn: they are refused, or print a condition. Where the byte became a letter or
-   a digit, so that a name stays one that a key may spell, they are the flat form of what they print. */
-static void change_each(void) {
-    size_t size, changed = 0;
-    uint8_t *flat = flat_of(KEY, &size);
-    for (size_t at = 0; at < size; at++) {
+/* Calls a function with each byte of a text of a question changed in turn. */
+static void change_each(question *q, int k, void (*tried)(const question *, uint8_t)) {
+    uint8_t *text = (uint8_t *)q->texts[k].at;
+    for (size_t at = 0; at < q->texts[k].size; at++) {
         for (int by = 1; by < 256; by++) {
-            flat[at] ^= by;
-            uint8_t text[4096] = {0}, again[4096] = {0};
-            nevgrasi_outcome o, read;
-            uint32_t code = nevgrasi_flat_print(flat, size, text, sizeof text, &o);
-            expect(code == NEVGRASI_DONE || code == NEVGRASI_NOT_FLAT, "changed flat bytes", "another code");
-            if (code == NEVGRASI_DONE && isalnum(flat[at])
-                && nevgrasi_read_key(text, o.needed, again, sizeof again, &read) == NEVGRASI_DONE) {
-                changed++;
-                expect(read.needed == size && !memcmp(again, flat, size), "changed flat bytes", (char *)text);
-            }
-            flat[at] ^= by;
+            text[at] ^= by;
+            tried(q, text[at]);
+            text[at] ^= by;
         }
     }
-    expect(changed > 0, "changed flat bytes", "none is read");
-    for (size_t shorter = 0; shorter < size; shorter++) {
-        nevgrasi_outcome o;
-        uint8_t *front = malloc(shorter);
-        memcpy(front, flat, shorter);
-        uint32_t code = nevgrasi_flat_print(front, shorter, NULL, 0, &o);
-        expect(code == NEVGRASI_NOT_FLAT || code == NEVGRASI_DONE, "the front of flat bytes", "another code");
-        free(front);
+}
+
+/* Flat bytes of which one was changed: they are refused, or print a condition. Where the byte became a letter or a
+   digit, so that a name stays one that a key may spell, they are the flat form of what they print. */
+static size_t reread;
+static void try_changed_flat(const question *q, uint8_t changed) {
+    uint8_t text[4096] = {0}, again[4096] = {0};
+    nevgrasi_outcome o, read;
+    uint32_t code = flat_print(q, text, sizeof text, &o);
+    expect(code == NEVGRASI_DONE || code == NEVGRASI_NOT_FLAT, "changed flat bytes", "another code");
+    if (code == NEVGRASI_DONE && isalnum(changed)
+        && nevgrasi_read_key(text, o.needed, again, sizeof again, &read) == NEVGRASI_DONE) {
+        reread++;
+        int is_same = read.needed == q->texts[0].size && !memcmp(again, q->texts[0].at, read.needed);
+        expect(is_same, "changed flat bytes", (char *)text);
     }
-    free(flat);
+}
+
+static void change_flat(void) {
+    question q = {"flat bytes", {flat_of(KEY)}};
+    change_each(&q, 0, try_changed_flat);
+    expect(reread > 0, "changed flat bytes", "none is read");
+    for (size_t shorter = 0; shorter < q.texts[0].size; shorter++) {
+        nevgrasi_outcome o;
+        question front = {"the front of flat bytes", {copied(q.texts[0].at, shorter)}};
+        uint32_t code = flat_print(&front, NULL, 0, &o);
+        expect(code == NEVGRASI_NOT_FLAT || code == NEVGRASI_DONE, front.name, "another code");
+        let_go(&front);
+    }
+    let_go(&q);
 }
 
 /* Each kind of record: the flat form of a key is accepted, and prints as the key does. */
@@ -346,34 +332,115 @@ static void try_flat_forms(void) {
                           "cfg(false)", "cfg(all())", "cfg(any())", "cfg(not(not(a)))",
                           "cfg(any(a, not(b), all(c, any(d)), e))", "x86_64-x", ""};
     for (size_t k = 0; k < sizeof keys / sizeof *keys; k++) {
-        size_t size;
-        uint8_t *flat = flat_of(keys[k], &size), text[512] = {0};
+        uint8_t text[512] = {0};
         nevgrasi_outcome o;
-        uint32_t code = nevgrasi_flat_print(flat, size, text, sizeof text, &o);
+        question q = {keys[k], {flat_of(keys[k])}};
+        uint32_t code = flat_print(&q, text, sizeof text, &o);
         expect(code == NEVGRASI_DONE && !strcmp((char *)text, keys[k]), "a flat form", keys[k]);
-        free(flat);
+        let_go(&q);
     }
+}
+
+/* A flat condition matched against prepared facts answers what the key answers on the lines of facts. */
+static void try_prepared(const char *key, const char *name, const char *lines) {
+    question plain = ASKED(key, key, name, lines);
+    question q = {key, {flat_of(key), copied(name, strlen(name)), prepared_of(lines)}};
+    nevgrasi_outcome o, wanted;
+    matches(&plain, NULL, 0, &wanted);
+    long before = held;
+    uint32_t code = prepared_matches(&q, NULL, 0, &o);
+    expect(code == NEVGRASI_DONE && o.holds == wanted.holds, "prepared facts: another answer", key);
+    expect(held == before, "prepared facts: a block is kept", key);
+    expect_zeros(&o, key);
+    let_go(&q);
+    let_go(&plain);
+}
+
+/* Keys with each kind of record, on the facts of each known target and on facts that are like one another. */
+static void try_all_prepared(void) {
+    const char *keys[] = {"cfg(unix)", "cfg(r#unix)", "cfg(target_os = \"linux\")", "cfg(target_abi = \"\")",
+                          "cfg(true)", "cfg(false)", "cfg(all())", "cfg(any())", "cfg(not(not(windows)))",
+                          "cfg(target_abi)", "cfg(any(a, not(unix), all(target_os = \"linux\", any(unix)), e))",
+                          "x86_64-unknown-linux-gnu",
+                          "cfg(all(unix, not(target_os = \"macos\")))", "cfg(target_feature = \"sse2\")", "x",
+                          "cfg(any(target_arch = \"wasm32\", target_pointer_width = \"64\"))", "cfg(ab = \"c\")",
+                          "cfg(a = \"bc\")", "cfg(abc)", "cfg(abc = \"\")", "cfg(a)"};
+    const char *lines[] = {"", "a = \"bc\"", "ab = \"c\"\nabc", "abc = \"\"\na\nb\n", "a\na\nr#a\n", "r#a = \"bc\""};
+    for (size_t k = 0; k < sizeof keys / sizeof *keys; k++) {
+        for (size_t f = 0; f < sizeof lines / sizeof *lines; f++) try_prepared(keys[k], "x", lines[f]);
+        for (size_t at = 0; at < NEVGRASI_TARGETS; at++) {
+            char name[64] = {0}, facts[1 << 13] = {0};
+            nevgrasi_outcome o;
+            nevgrasi_target_name(at, (uint8_t *)name, sizeof name - 1, &o);
+            nevgrasi_facts((uint8_t *)name, strlen(name), (uint8_t *)facts, sizeof facts - 1, &o);
+            expect(o.code == NEVGRASI_DONE && o.needed < sizeof facts, "the facts of a target", name);
+            try_prepared(keys[k], name, facts);
+        }
+    }
+}
+
+/* Prepared facts with each byte changed in turn, each front of them and bytes at random: the code is one of two, and a
+   byte read outside of them ends this program. */
+static size_t others;
+static uint32_t match_prepared(const question *q) {
+    nevgrasi_outcome o;
+    uint32_t code = prepared_matches(q, NULL, 0, &o);
+    others += code != NEVGRASI_DONE && (code != NEVGRASI_NOT_FLAT || o.argument != 2);
+    return code;
+}
+
+static void try_changed_prepared(const question *q, uint8_t changed) {
+    (void)changed;
+    match_prepared(q);
+}
+
+static void try_changed_condition(const question *q, uint8_t changed) {
+    nevgrasi_outcome o;
+    uint32_t code = prepared_matches(q, NULL, 0, &o), print = flat_print(q, NULL, 0, &o);
+    (void)changed;
+    expect(print == NEVGRASI_NOT_FLAT || code == print, "changed flat bytes, prepared facts", "another code");
+}
+
+static void change_prepared(void) {
+    bytes prepared = prepared_of("unix\ntarget_os = \"macos\"\na\n");
+    question q = {"prepared facts", {flat_of(KEY), {0}, prepared}};
+    change_each(&q, 2, try_changed_prepared);
+    uint32_t seed = 1;
+    for (size_t round = 0; round < 20000; round++) {
+        size_t length = round % (prepared.size + 1);
+        bytes part = copied(prepared.at + (round < prepared.size ? 0 : prepared.size - length), length);
+        for (size_t k = 0; round >= 2 * prepared.size && k < 4 && length > 16; k++) {
+            seed = seed * 1664525 + 1013904223;
+            ((uint8_t *)part.at)[(seed >> 8) % (length - 8)] = seed >> 24;
+        }
+        q.texts[2] = part;
+        uint32_t code = match_prepared(&q);
+        if (round < prepared.size) expect(code == NEVGRASI_NOT_FLAT, "the front of prepared facts", "another code");
+        free((void *)part.at);
+    }
+    expect(others == 0, "changed prepared facts", "another code");
+    q.texts[2] = prepared;
+    change_each(&q, 0, try_changed_condition);
+    let_go(&q);
 }
 
 /* As many levels as a text may have, and one more. The `cfg(` is one of them. */
 static void try_depth(const char *before, const char *after) {
     for (size_t more = 0; more < 2; more++) {
         char *key = nested(NEVGRASI_MOST_OPEN - 1 + more, before, after);
-        size_t size = strlen(key);
+        uint32_t code = more ? NEVGRASI_TOO_DEEP : NEVGRASI_DONE;
+        question q = ASKED(before, key, "", "a\n");
         nevgrasi_outcome o;
-        uint32_t code = nevgrasi_canonical((uint8_t *)key, size, NULL, 0, &o);
-        expect(code == (more ? NEVGRASI_TOO_DEEP : NEVGRASI_DONE), "canonical of a deep key", before);
-        code = nevgrasi_matches((uint8_t *)key, size, NULL, 0, (uint8_t *)"a\n", 2, NULL, 0, &o);
-        expect(code == (more ? NEVGRASI_TOO_DEEP : NEVGRASI_DONE), "matches of a deep key", before);
-        code = nevgrasi_can_hold((uint8_t *)key, size, 1000, NULL, 0, &o);
-        expect(code == (more ? NEVGRASI_TOO_DEEP : NEVGRASI_DONE), "can_hold of a deep key", before);
+        expect(canonical(&q, NULL, 0, &o) == code, "canonical of a deep key", before);
+        expect(matches(&q, NULL, 0, &o) == code, "matches of a deep key", before);
+        expect(can_hold(&q, NULL, 0, &o) == code, "can_hold of a deep key", before);
+        let_go(&q);
         if (!more) {
-            size_t flat_size;
-            uint8_t *flat = flat_of(key, &flat_size);
-            code = nevgrasi_flat_print(flat, flat_size, NULL, 0, &o);
-            int is_long = flat_size > NEVGRASI_MOST_FLAT_BYTES;
-            expect(code == (is_long ? NEVGRASI_TOO_DEEP : NEVGRASI_DONE), "flat, deep", before);
-            free(flat);
+            question flat = {before, {flat_of(key)}};
+            int is_long = flat.texts[0].size > NEVGRASI_MOST_FLAT_BYTES;
+            code = is_long ? NEVGRASI_TOO_DEEP : NEVGRASI_DONE;
+            expect(flat_print(&flat, NULL, 0, &o) == code, "flat, deep", before);
+            let_go(&flat);
         }
         free(key);
     }
@@ -381,12 +448,12 @@ static void try_depth(const char *before, const char *after) {
 
 static void try_limit(void) {
     uint8_t *flat = calloc(NEVGRASI_MOST_FLAT_BYTES + 1, 1);
+    question q = {"flat", {{flat, NEVGRASI_MOST_FLAT_BYTES + 1}}};
     nevgrasi_outcome o;
-    uint32_t code = nevgrasi_flat_print(flat, NEVGRASI_MOST_FLAT_BYTES + 1, NULL, 0, &o);
-    expect(code == NEVGRASI_TOO_DEEP, "flat", "too long");
-    code = nevgrasi_flat_print(flat, NEVGRASI_MOST_FLAT_BYTES, NULL, 0, &o);
-    expect(code == NEVGRASI_NOT_FLAT, "flat", "at its limit");
-    free(flat);
+    expect(flat_print(&q, NULL, 0, &o) == NEVGRASI_TOO_DEEP, q.name, "too long");
+    q.texts[0].size--;
+    expect(flat_print(&q, NULL, 0, &o) == NEVGRASI_NOT_FLAT, q.name, "at its limit");
+    let_go(&q);
 }
 
 /* The deepest flat condition that is as long as one may be: each level is `all` of the next and of `true`. */
@@ -398,21 +465,24 @@ static void try_deep_flat(void) {
         flat[k * record + 16] = k < levels ? 7 : 4;
     }
     nevgrasi_outcome o;
-    expect(nevgrasi_flat_print(flat, size, NULL, 0, &o) == NEVGRASI_DONE, "the deepest flat condition", "no print");
-    expect(o.needed == 5 + 11 * levels + 4, "the deepest flat condition", "another length");
-    uint32_t code = nevgrasi_flat_matches(flat, size, NULL, 0, NULL, 0, &o);
-    expect(code == NEVGRASI_DONE && o.holds, "the deepest flat condition", "does not match");
-    free(flat);
+    question q = {"the deepest flat condition", {{flat, size}}};
+    expect(flat_print(&q, NULL, 0, &o) == NEVGRASI_DONE, q.name, "no print");
+    expect(o.needed == 5 + 11 * levels + 4, q.name, "another length");
+    expect(flat_matches(&q, NULL, 0, &o) == NEVGRASI_DONE && o.holds, q.name, "does not match");
+    q.texts[2] = prepared_of("");
+    int is_true = prepared_matches(&q, NULL, 0, &o) == NEVGRASI_DONE && o.holds;
+    expect(is_true, q.name, "does not match prepared facts");
+    let_go(&q);
 }
 
 /* The texts of rows, and one number for all that the calls answer on each of them. */
 enum { THREADS = 8, MOST_TEXTS = 20000, ROOM = 1 << 18 };
-static const uint8_t *texts[MOST_TEXTS];
-static size_t lengths[MOST_TEXTS], text_count;
+static bytes texts[MOST_TEXTS];
+static size_t text_count;
 static uint64_t answers[MOST_TEXTS];
 
-static uint64_t mixed(uint64_t sum, const void *bytes, size_t size) {
-    for (size_t k = 0; k < size; k++) sum = (sum ^ ((const uint8_t *)bytes)[k]) * 0x100000001B3;
+static uint64_t mixed(uint64_t sum, const void *from, size_t size) {
+    for (size_t k = 0; k < size; k++) sum = (sum ^ ((const uint8_t *)from)[k]) * 0x100000001B3;
     return sum;
 }
 
@@ -422,30 +492,31 @@ static uint64_t with_outcome(uint64_t sum, const nevgrasi_outcome *o, const uint
     return mixed(mixed(sum, numbers, sizeof numbers), out, o->needed < ROOM ? o->needed : 0);
 }
 
-static uint64_t answer_on(const uint8_t *text, size_t size, uint8_t *out) {
+static uint64_t answer_on(bytes text, uint8_t *out) {
     uint64_t sum = 0xCBF29CE484222325, words[NEVGRASI_WORDS] = {0};
+    const bytes key = {(const uint8_t *)"cfg(unix)", 9};
     nevgrasi_outcome o;
-    nevgrasi_canonical(text, size, out, ROOM, &o);
+    nevgrasi_canonical(text.at, text.size, out, ROOM, &o);
     sum = with_outcome(sum, &o, out);
-    nevgrasi_fault(text, size, out, ROOM, &o);
+    nevgrasi_fault(text.at, text.size, out, ROOM, &o);
     sum = with_outcome(sum, &o, out);
-    nevgrasi_targets(text, size, words, out, ROOM, &o);
+    nevgrasi_targets(text.at, text.size, words, out, ROOM, &o);
     sum = mixed(with_outcome(sum, &o, out), words, sizeof words);
-    nevgrasi_matches((const uint8_t *)"cfg(unix)", 9, NULL, 0, text, size, out, ROOM, &o);
+    nevgrasi_matches(key.at, key.size, NULL, 0, text.at, text.size, out, ROOM, &o);
     sum = with_outcome(sum, &o, out);
-    nevgrasi_implies(text, size, (const uint8_t *)"cfg(unix)", 9, 100, out, ROOM, &o);
+    nevgrasi_implies(text.at, text.size, key.at, key.size, 100, out, ROOM, &o);
     return with_outcome(sum, &o, out);
 }
 
 /* Each thread begins at another text, so that at any time they are at others. */
 static void *ask_all(void *which) {
     uint8_t *out = calloc(ROOM, 1);
-    size_t first = *(size_t *)which * text_count / THREADS, others = 0;
+    size_t first = *(size_t *)which * text_count / THREADS, wrong = 0;
     for (size_t k = 0; k < text_count; k++) {
         size_t at = (first + k) % text_count;
-        others += answer_on(texts[at], lengths[at], out) != answers[at];
+        wrong += answer_on(texts[at], out) != answers[at];
     }
-    expect(others == 0, "a thread", "another answer than alone");
+    expect(wrong == 0, "a thread", "another answer than alone");
     free(out);
     return NULL;
 }
@@ -457,8 +528,7 @@ static void read_texts(const char *file) {
         size_t length = size[0] | size[1] << 8 | size[2] << 16 | (size_t)size[3] << 24;
         uint8_t *text = malloc(length);
         if (fread(text, 1, length, from) != length) break;
-        texts[text_count] = text;
-        lengths[text_count++] = length;
+        texts[text_count++] = (bytes){text, length};
     }
     expect(from && feof(from), "the texts", "the file is not read to its end");
     if (from) fclose(from);
@@ -468,7 +538,7 @@ static void try_threads(const char *file) {
     read_texts(file);
     expect(text_count > 1000, "the texts", "there are few");
     uint8_t *out = calloc(ROOM, 1);
-    for (size_t k = 0; k < text_count; k++) answers[k] = answer_on(texts[k], lengths[k], out);
+    for (size_t k = 0; k < text_count; k++) answers[k] = answer_on(texts[k], out);
     free(out);
     pthread_t threads[THREADS];
     size_t places[THREADS];
@@ -477,33 +547,28 @@ static void try_threads(const char *file) {
         pthread_create(&threads[k], NULL, ask_all, &places[k]);
     }
     for (size_t k = 0; k < THREADS; k++) pthread_join(threads[k], NULL);
-    for (size_t k = 0; k < text_count; k++) free((void *)texts[k]);
+    for (size_t k = 0; k < text_count; k++) free((void *)texts[k].at);
 }
 
 int main(int count, char **words) {
     if (count != 2) return 2;
     expect(nevgrasi_abi() == NEVGRASI_ABI, "abi", "another number");
-    try_answers();
-    try_budget();
-    try_graph();
-    try_places();
-    question flat = ASKED("flat_matches", "", "x");
-    size_t size;
-    free((void *)flat.texts[0]);
-    flat.texts[0] = flat_of(KEY, &size);
-    flat.lengths[0] = size;
-    try_sizes(flat_matches, &flat, NEVGRASI_DONE, "");
-    refuse_each(flat_matches, &flat);
-    try_sizes(flat_print, &flat, NEVGRASI_DONE, "cfg(all(unix, not(target_os = \"macos\")))");
-    refuse_each(flat_print, &flat);
-    let_go(&flat);
+    try_rows();
+    try_deep_graphs();
+    try_runs();
+    try_call(flat_matches, (question){"flat_matches", {flat_of(KEY), copied("x", 1)}}, NEVGRASI_DONE, "");
+    try_call(flat_print, (question){"flat_print", {flat_of(KEY)}}, NEVGRASI_DONE,
+             "cfg(all(unix, not(target_os = \"macos\")))");
+    try_call(prepare_facts, ASKED("prepare_facts", "unix\na = \"b\"\n"), NEVGRASI_DONE, NULL);
     try_flat_forms();
-    change_each();
+    change_flat();
     try_depth("not(", ")");
     try_depth("all(", ", a)");
     try_depth("all(a = \")\", ", ", a)");
     try_limit();
     try_deep_flat();
+    try_all_prepared();
+    change_prepared();
     try_threads(words[1]);
     printf("%d passed, %d failed\n", passed, failed);
     return failed != 0;

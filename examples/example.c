@@ -19,7 +19,7 @@ int main(int count, char **words) {
     if (nevgrasi_targets(TEXT(key), targets, out, sizeof out, &outcome) != NEVGRASI_DONE) return 3;
     int held = 0;
     for (int k = 0; k < NEVGRASI_TARGETS; k++) held += targets[k / 64] >> (k % 64) & 1;
-    printf("holds at %d of %d known targets\n", held, NEVGRASI_TARGETS);
+    printf("true on %d of %d known targets\n", held, NEVGRASI_TARGETS);
     if (nevgrasi_implies(TEXT(key), TEXT("cfg(unix)"), 1000, out, sizeof out, &outcome) != NEVGRASI_DONE) return 3;
     printf("implies cfg(unix): %s\n", outcome.holds ? "yes" : "no");
     return 0;

@@ -10,5 +10,5 @@ except Fault as fault:
     print(fault.snippet)
     sys.exit(2)
 print(key.canonical)
-print(f"holds at {len(key.targets())} of {len(known_targets())} known targets")
+print(f"true on {len(key.targets())} of {len(known_targets())} known targets")
 print(f"implies cfg(unix): {'yes' if key.implies('cfg(unix)') else 'no'}")

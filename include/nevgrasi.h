@@ -18,7 +18,7 @@
    `argument` is the index, from 0 on, of that text among the texts of the call.
 
    A field without a meaning is zero: `holds` and `is_named` unless the code is NEVGRASI_DONE, and `start` and `end`
-   unless it is NEVGRASI_REFUSED.
+   unless it is NEVGRASI_REFUSED. `nevgrasi_run` says what it sets.
 
    An example consists of texts, one after the other, each with its length before it: 8 bytes, little-endian. With
    `is_named`, the first text is the name of the target, and each other text is a fact. */
@@ -37,7 +37,7 @@ extern "C" {
 #define NEVGRASI_REFUSED 1
 /* A text is not UTF-8. */
 #define NEVGRASI_NOT_UTF8 2
-/* The bytes are not a flat condition, or not flat facts. */
+/* The bytes are not a flat condition, not flat facts, or not prepared facts. */
 #define NEVGRASI_NOT_FLAT 3
 /* An allocation failed. */
 #define NEVGRASI_NO_MEMORY 4
@@ -145,11 +145,31 @@ uint32_t nevgrasi_flat_print(const uint8_t *flat, size_t flat_length, uint8_t *o
 uint32_t nevgrasi_flat_matches(const uint8_t *flat, size_t flat_length, const uint8_t *name, size_t name_length,
     const uint8_t *flat_facts, size_t flat_facts_length, nevgrasi_outcome *outcome);
 
+/* Writes prepared facts: the facts in these lines, which are as `rustc --print cfg` prints them, as bytes that the
+   caller can keep to match many flat conditions. */
+uint32_t nevgrasi_prepare_facts(const uint8_t *lines, size_t lines_length, uint8_t *out, size_t out_length,
+    nevgrasi_outcome *outcome);
+
+/* Decides whether a flat condition is true on the target with this name and these prepared facts. `holds` is the
+   answer. Texts are compared as bytes, and not checked to be UTF-8. */
+uint32_t nevgrasi_prepared_matches(const uint8_t *flat, size_t flat_length, const uint8_t *name, size_t name_length,
+    const uint8_t *prepared, size_t prepared_length, nevgrasi_outcome *outcome);
+
 /* Writes a line of JSON for each package of a graph, with the known targets on which it is in the build, as the
    program `manifest_check graph --json` prints them. The document is the output of `cargo metadata --format-version
    1`. Builds run on the host, a known target with this name, or on the target itself if the name is empty. With
    NEVGRASI_REFUSED, writes why the document cannot be used, and sets no span. */
 uint32_t nevgrasi_graph(const uint8_t *document, size_t document_length, const uint8_t *host, size_t host_length,
+    uint8_t *out, size_t out_length, nevgrasi_outcome *outcome);
+
+/* Runs a command of the program `manifest_check` on files that the caller hands over, and writes its output, and its
+   errors after it. With NEVGRASI_DONE, `argument` is the exit status, and the errors are from `start` to `end` of
+   what is written. Each argument of the program ends with a NUL. Each file is its name, a NUL, its length in decimal
+   digits, a NUL, and its bytes, and the file `-` is standard input. The current folder is the root, to which a
+   relative name leads, and there are no environment variables. No other file exists, and nothing is written: a call
+   that would write a file fails as on a read-only file system. With NEVGRASI_REFUSED, bytes do not have this form,
+   and the reason is written; `argument` is then 0 for the arguments, and 1 for the files. */
+uint32_t nevgrasi_run(const uint8_t *arguments, size_t arguments_length, const uint8_t *files, size_t files_length,
     uint8_t *out, size_t out_length, nevgrasi_outcome *outcome);
 
 #ifdef __cplusplus

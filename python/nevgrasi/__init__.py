@@ -29,8 +29,8 @@ import typing
 from . import _library
 from ._library import Outcome, call, of_bytes, of_text, wrong_type
 
-__all__ = ["Answer", "Condition", "Example", "Facts", "Fault", "Key", "Package", "TooDeep", "Undecided",
-           "UnknownTarget", "facts_of", "graph", "keys_at", "known_targets", "version"]  # fmt: skip
+__all__ = ["Answer", "Condition", "Example", "Facts", "Fault", "Key", "Package", "Run", "TooDeep", "Undecided",
+           "UnknownTarget", "facts_of", "graph", "keys_at", "known_targets", "run", "version"]  # fmt: skip
 
 # How many case splits a comparison may make before it is undecided.
 BUDGET = 10_000
@@ -256,7 +256,7 @@ class Key(_Value):
         """Returns whether the key applies to the target of this name with these facts.
 
         The facts are `Facts`, or one text of lines as `rustc --print cfg` prints them, or texts of one line each.
-        Raises `Fault` if a line is no fact, and `ValueError` if a text of one line has more. `Condition.matches` is
+        Raises `Fault` if a line is not a fact, and `ValueError` if a text of one line has more. `Condition.matches` is
         faster if you ask for the same facts again.
 
         >>> Key("cfg(unix)").matches("x86_64-unknown-linux-gnu", ["unix", 'target_os="linux"'])
@@ -442,8 +442,8 @@ class Condition(_Value):
         """
         found = facts if isinstance(facts, Facts) else Facts(facts)
         outcome = Outcome()
-        arguments = [*of_bytes(self.flat), *of_text(found.name), *of_bytes(found.flat)]
-        _library.LIBRARY.nevgrasi_flat_matches(*arguments, ctypes.byref(outcome))
+        arguments = [*of_bytes(self.flat), *of_text(found.name), *of_bytes(found.prepared)]
+        _library.LIBRARY.nevgrasi_prepared_matches(*arguments, ctypes.byref(outcome))
         _check(outcome, b"")
         return bool(outcome.holds)
 
@@ -548,15 +548,16 @@ class Facts(_Value):
     nevgrasi.Fault: line 2: failed to parse `a =` as a cfg expression: expected a string, but cfg expression ended
     """
 
-    __slots__ = ("_name", "_lines", "_flat")
+    __slots__ = ("_name", "_lines", "_flat", "_prepared")
+    _prepared: bytes | None
 
     def __init__(self, facts: typing.Iterable[str] | str, name: str = "") -> None:
-        """Parses facts. Raises `Fault` if a line is no fact, and `ValueError` if a text of one line has more."""
+        """Parses facts. Raises `Fault` if a line is not a fact, and `ValueError` if a text of one line has more."""
         text = _lines(facts)
         _answer("nevgrasi_matches", *of_text("cfg(all())"), *of_text(name, "a name"), *of_text(text))
         read = (_FACT.fullmatch(line) for line in text.split("\n") if line)
         found = {_line(it): _record(it) for it in read if it}
-        self._name, self._lines = name, tuple(sorted(found))
+        self._name, self._lines, self._prepared = name, tuple(sorted(found)), None
         self._flat = b"".join(found[line] for line in self._lines)
 
     @property
@@ -573,6 +574,13 @@ class Facts(_Value):
     def flat(self) -> bytes:
         """The flat facts, as the call `nevgrasi_flat_matches` takes them."""
         return self._flat
+
+    @property
+    def prepared(self) -> bytes:
+        """The prepared facts, as the call `nevgrasi_prepared_matches` takes them. They are made when first needed."""
+        if self._prepared is None:
+            self._prepared = _answer("nevgrasi_prepare_facts", *of_text(str(self)))
+        return self._prepared
 
     def _parts(self) -> tuple[str, tuple[str, ...]]:
         return self._name, self._lines
@@ -598,33 +606,148 @@ class Facts(_Value):
         return type(self), (self._lines, self._name)
 
 
+# How many bytes the output of a command is expected to have, at least, and times the bytes of its files.
+_LEAST_OUTPUT = 1 << 16
+_OUTPUT_OF_FILES = 4
+
+
+class Run(typing.NamedTuple):
+    """How a command ended, and what it printed."""
+
+    #: The exit status: 0, 1 or 2.
+    status: int
+    #: What the program prints on standard output.
+    output: str
+    #: What the program prints on standard error.
+    errors: str
+
+
+def _of_file(name: str, data: str | bytes) -> bytes:
+    """Returns a file as the library takes it: its name, a NUL, its length, a NUL, and its bytes."""
+    if not isinstance(name, str):
+        raise wrong_type("a name of a file", "a str", name)
+    if not isinstance(data, (str, bytes)):
+        raise wrong_type("a file", "a str or bytes", data)
+    given = data if isinstance(data, bytes) else data.encode()
+    return b"%b\0%d\0%b" % (_of_word(name), len(given), given)
+
+
+def _of_word(word: str) -> bytes:
+    """Returns an argument or a name of a file as bytes. Raises `ValueError` if it has a NUL."""
+    if not isinstance(word, str):
+        raise wrong_type("an argument", "a str", word)
+    if "\0" in word:
+        raise ValueError("a NUL in an argument or in the name of a file")
+    return word.encode()
+
+
+def run(
+    arguments: typing.Iterable[str], files: collections.abc.Mapping[str, str | bytes] | None = None
+) -> Run:
+    """Runs a command of the program `manifest_check` on these files, by their names, and returns what it prints.
+
+    The arguments are those of the program, without its name: `lint`, `select`, `graph` and every other command, with
+    their options. The file `-` is standard input. The current folder is the root, to which a relative name leads. No
+    file of the machine is read, no file is written, and there are no environment variables. What is invalid is in
+    `errors`, with status 2. Raises `MemoryError` alone, and `ValueError` for a NUL in a name.
+
+    >>> manifest = '[package]\\nname = "a"\\n[target."cfg(windos)".dependencies]\\n'
+    >>> print(run(["lint", "-q", "--message-format", "short", "Cargo.toml"], {"Cargo.toml": manifest}).output, end="")
+    Cargo.toml:3:14: warning: no target that rustc 1.95.0 knows has `windos`: help: did you mean `cfg(windows)`? [unknown-fact]
+    >>> run(["match", "--target", "x86_64-pc-windows-msvc", "cfg(unix)"])
+    Run(status=1, output='no\\n', errors='')
+    """
+    if isinstance(arguments, (str, bytes)):
+        raise wrong_type("the arguments", "a list of str", arguments)
+    words = b"".join(_of_word(word) + b"\0" for word in arguments)
+    given = b"".join(_of_file(name, data) for name, data in (files or {}).items())
+    room = _LEAST_OUTPUT + _OUTPUT_OF_FILES * len(given)
+    outcome, written = call("nevgrasi_run", *of_bytes(words), *of_bytes(given), room=room)
+    _check(outcome, written)
+    return Run(outcome.argument, written[: outcome.start].decode(), written[outcome.start : outcome.end].decode())
+
+
 # How long the lines of a graph are expected to be, times the length of its document. Known documents need less.
 _LINES_OF_DOCUMENT = 4
 
 
-def graph(document: str | bytes | collections.abc.Mapping[str, object], host: str | None = None) -> list[Package]:
+def graph(
+    document: str | bytes | collections.abc.Mapping[str, object],
+    host: str | None = None,
+    *,
+    targets: typing.Iterable[str] = (),
+    edges: typing.Iterable[str] = (),
+    side: str | None = None,
+    packages: typing.Iterable[str] = (),
+    resolver: str | None = None,
+    features: typing.Iterable[str] = (),
+    default_features: bool = True,
+    all_features: bool = False,
+) -> list[Package]:
     """Returns on which known targets each package is in the build.
 
     The document is what `cargo metadata --format-version 1` printed, as a text or as the object of its JSON. The
-    packages are those that `manifest_check graph --json` prints. Builds run on the host, which is a known target, or on
-    the target itself. Raises `Fault`, which has no place, if the document can't be used, `UnknownTarget` for the host,
-    and `TooDeep`.
+    packages are those that `manifest_check graph --json` prints with these options. Builds run on the host, which is a
+    known target, or on the target itself. Raises `Fault`, which has no place, if the document or an option can't be
+    used, `UnknownTarget` for the host, and `TooDeep`. With an option other than the host, these two are a `Fault` too.
+
+    - `targets`: select only these targets; "all" then stands for all of them
+    - `edges`: follow only these dependency kinds: "normal", "build", "dev"
+    - `side`: select only what is built for the "target" or the "host"
+    - `packages`: start from the members of these names
+    - `resolver`: resolve features as this resolver of Cargo does: "1", "2", "3", or "edition"
+    - `features`, `default_features`, `all_features`: the features of the roots that are on
 
     >>> nodes = [{"id": "a", "deps": []}]
-    >>> packages = [{"id": "a", "name": "a", "version": "1.0.0", "targets": []}]
-    >>> graph({"version": 1, "packages": packages, "workspace_members": ["a"], "resolve": {"nodes": nodes}}) == [
+    >>> members = [{"id": "a", "name": "a", "version": "1.0.0", "targets": []}]
+    >>> document = {"version": 1, "packages": members, "workspace_members": ["a"], "resolve": {"nodes": nodes}}
+    >>> graph(document) == [
     ...     {"package": "a 1.0.0", "id": "a", "license": None, "targets": 320, "at": "all", "side": "target",
     ...      "kinds": [], "proc_macro": False}]
     True
+    >>> graph(document, targets=["avr-none"])[0]["targets"]
+    1
+    >>> graph(document, side="both")
+    Traceback (most recent call last):
+        ...
+    nevgrasi.Fault: invalid value 'both' for '--side <SIDE>'
     """
     if isinstance(document, collections.abc.Mapping):
         document = json.dumps(dict(document))
     if not isinstance(document, (str, bytes)):
         raise wrong_type("a document", "a str, bytes or a mapping", document)
     given = document if isinstance(document, bytes) else document.encode()
+    options = [
+        *_option("target", targets), *_option("edges", _joined(edges)), *_option("side", side),
+        *_option("package", packages), *_option("resolver", resolver), *_option("features", _joined(features)),
+        *(["--no-default-features"] if not default_features else []), *(["--all-features"] if all_features else []),
+    ]  # fmt: skip
+    if options:
+        return _graph_by(given, [*options, *_option("host", host)])
     on = of_text("" if host is None else host, "a host")
     outcome, written = call("nevgrasi_graph", *of_bytes(given), *on, room=_LINES_OF_DOCUMENT * len(given))
     return [json.loads(line) for line in _check(outcome, written).split(b"\n")[:-1]]
+
+
+def _joined(words: typing.Iterable[str]) -> str | None:
+    """Returns the words with commas between them, or None if there are none."""
+    return ",".join(words) or None
+
+
+def _option(name: str, values: typing.Iterable[str] | str | None) -> list[str]:
+    """Returns an option of the program with each of its values."""
+    if values is None:
+        return []
+    return [f"--{name}={value}" for value in ([values] if isinstance(values, str) else values)]
+
+
+def _graph_by(document: bytes, options: list[str]) -> list[Package]:
+    """Returns the packages of a document by these options."""
+    status, output, errors = run(["graph", "--json", *options], {"-": document})
+    if status == 2:
+        lines = errors.splitlines()
+        raise Fault(re.sub(r"^(standard input: |-: )?error: ", "", lines[0] if lines else output), 0, 0)
+    return [json.loads(line) for line in output.splitlines()]
 
 
 def version() -> str:

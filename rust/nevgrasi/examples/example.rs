@@ -14,7 +14,7 @@ fn main() -> Result<(), Error> {
         }
     };
     println!("{key}");
-    println!("holds at {} of {} known targets", key.targets()?.len(), known_targets()?.len());
+    println!("true on {} of {} known targets", key.targets()?.len(), known_targets()?.len());
     let answer = key.implies(&"cfg(unix)".parse()?)?;
     println!("implies cfg(unix): {}", if answer.holds { "yes" } else { "no" });
     Ok(())

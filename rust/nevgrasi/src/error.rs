@@ -9,8 +9,12 @@ use std::ops::Range;
 pub enum ErrorKind {
     /// The text is not a key. The error has a span and a snippet.
     InvalidKey,
-    /// The document of a graph can't be used.
+    /// A line is not a fact. The error has a span.
+    InvalidFacts,
+    /// The document of a graph, or an option for it, can't be used.
     InvalidDocument,
+    /// An argument or the name of a file has a NUL.
+    InvalidArgument,
     /// A text has more parentheses open at once than the library accepts.
     TooDeep,
     /// A comparison took more case splits than its budget.
@@ -55,6 +59,11 @@ impl Error {
     /// Returns the error of a key.
     pub(crate) fn of_key(message: String, span: Range<usize>, snippet: String) -> Error {
         Error { kind: ErrorKind::InvalidKey, message, span: Some(span), snippet: Some(snippet) }
+    }
+
+    /// Returns the error of lines of facts.
+    pub(crate) fn of_facts(message: String, span: Range<usize>) -> Error {
+        Error { kind: ErrorKind::InvalidFacts, message, span: Some(span), snippet: None }
     }
 
     /// Returns the error of an answer that the header rules out.

@@ -4,6 +4,7 @@ use crate::call::{check_code, made_in, text_of};
 use crate::error::{Error, ErrorKind};
 use crate::json::{read, Value};
 use crate::raw;
+use crate::run::run;
 
 /// How long the lines of a graph are expected to be, times the length of its document. Known documents need less.
 const LINES_OF_DOCUMENT: usize = 4;
@@ -153,6 +154,89 @@ pub fn graph(document: &str, host: Option<&str>) -> Result<Vec<Package>, Error> 
         return Err(Error::new(ErrorKind::InvalidDocument, text));
     }
     check_code(outcome.code)?;
+    packages_of(&text)
+}
+
+/// Returns the packages of lines of JSON.
+fn packages_of(text: &str) -> Result<Vec<Package>, Error> {
     let package = |line| Package::of_line(line).ok_or_else(|| Error::unexpected("a line that is no package"));
     text.lines().map(package).collect()
+}
+
+/// The options of a graph, which `manifest_check graph` has too. By default, none is given.
+#[derive(Clone, Debug, Default, PartialEq, Eq, Hash)]
+pub struct GraphOptions<'a> {
+    /// The target on which builds run, instead of the target itself.
+    pub host: Option<&'a str>,
+    /// Select only these targets, unless there is none. [`Targets::All`] then stands for all of them.
+    pub targets: &'a [&'a str],
+    /// Follow only these dependency kinds, unless there is none: `normal`, `build` and `dev`.
+    pub edges: &'a [&'a str],
+    /// Select only what is built for this side: `target` or `host`.
+    pub side: Option<&'a str>,
+    /// Start from the members of these names, unless there is none.
+    pub packages: &'a [&'a str],
+    /// Resolve features as this resolver of Cargo does: `1`, `2`, `3` or `edition`.
+    pub resolver: Option<&'a str>,
+    /// Turn on these features of the roots.
+    pub features: &'a [&'a str],
+    /// Do not turn on the feature `default` of the roots.
+    pub no_default_features: bool,
+    /// Turn on all features of the roots.
+    pub all_features: bool,
+}
+
+impl GraphOptions<'_> {
+    /// Returns the arguments of the program.
+    fn arguments(&self) -> Vec<String> {
+        let option = |name: &str, value: &str| format!("--{name}={value}");
+        let mut words = vec!["graph".to_string(), "--json".to_string()];
+        words.extend(self.host.map(|it| option("host", it)));
+        words.extend(self.targets.iter().map(|it| option("target", it)));
+        words.extend(self.packages.iter().map(|it| option("package", it)));
+        words.extend(self.side.map(|it| option("side", it)));
+        words.extend(self.resolver.map(|it| option("resolver", it)));
+        for (name, values) in [("edges", self.edges), ("features", self.features)] {
+            if !values.is_empty() {
+                words.push(option(name, &values.join(",")));
+            }
+        }
+        for (flag, is_on) in
+            [("--no-default-features", self.no_default_features), ("--all-features", self.all_features)]
+        {
+            if is_on {
+                words.push(flag.to_string());
+            }
+        }
+        words
+    }
+}
+
+/// Returns on which targets each package is in the build, as `manifest_check graph` does with these options.
+///
+/// The document is what `cargo metadata --format-version 1` printed.
+///
+/// ```
+/// use nevgrasi::{graph_with, GraphOptions};
+///
+/// let document = r#"{"version": 1, "workspace_members": ["app"],
+///     "packages": [{"id": "app", "name": "app", "version": "1.0.0", "targets": []}],
+///     "resolve": {"nodes": [{"id": "app", "deps": []}]}}"#;
+/// let options = GraphOptions { targets: &["avr-none"], ..GraphOptions::default() };
+/// assert_eq!(graph_with(document, &options)?[0].targets, 1);
+/// # Ok::<(), nevgrasi::Error>(())
+/// ```
+///
+/// # Errors
+///
+/// [`ErrorKind::InvalidDocument`], with the reason, if the document or an option can't be used.
+/// [`ErrorKind::InvalidArgument`], [`ErrorKind::OutOfMemory`] and [`ErrorKind::OtherInterface`].
+pub fn graph_with(document: &str, options: &GraphOptions<'_>) -> Result<Vec<Package>, Error> {
+    let words = options.arguments();
+    let words: Vec<&str> = words.iter().map(String::as_str).collect();
+    let found = run(&words, &[("-", document.as_bytes())])?;
+    if found.status == 2 {
+        return Err(Error::new(ErrorKind::InvalidDocument, found.errors.trim_end()));
+    }
+    packages_of(&found.output)
 }

@@ -2,6 +2,7 @@
 
 use crate::call::{check_code, check_interface, made, text_of, texts_of};
 use crate::error::Error;
+use crate::facts::Condition;
 use crate::raw::{self, Outcome};
 use crate::target_name;
 use std::cmp::Ordering;
@@ -109,6 +110,15 @@ impl Key {
     /// ```
     pub fn canonical(&self) -> &str {
         &self.canonical
+    }
+
+    /// Returns the condition of the key, which can be matched often.
+    ///
+    /// # Errors
+    ///
+    /// [`ErrorKind`](crate::ErrorKind)`::OutOfMemory`.
+    pub fn condition(&self) -> Result<Condition, Error> {
+        Condition::of(self)
     }
 
     /// Returns the known targets, those of rustc 1.95.0, on which the key is true, sorted.

@@ -1,9 +1,9 @@
 //! Answers questions about the target conditions of Cargo manifests that other crates leave open: on which known
 //! targets a key is true, whether one key implies another, where a rejected key is wrong, and on which targets each
-//! package of a graph is in the build.
+//! package of a graph is in the build. [`run`] runs every command of the program `manifest_check` on files in memory.
 //!
 //! The answers come from the library `libnevgrasi`, whose calls are proved. This crate is not proved: it passes slices
-//! to the library, and reads the answers. To match keys, use the crate cargo-platform.
+//! to the library, and reads the answers.
 //!
 //! ```
 //! use nevgrasi::Key;
@@ -19,16 +19,20 @@
 
 mod call;
 mod error;
+mod facts;
 mod graph;
 mod json;
 mod key;
 #[rustfmt::skip]
 mod raw;
+mod run;
 
 pub use error::{Error, ErrorKind};
-pub use graph::{graph, Kind, Package, Sides, Targets};
+pub use facts::{Condition, Facts};
+pub use graph::{graph, graph_with, GraphOptions, Kind, Package, Sides, Targets};
 pub use key::{Answer, Example, Key, BUDGET};
 pub use raw::ABI;
+pub use run::{run, Run};
 
 use call::{text_of, written};
 

@@ -27,7 +27,7 @@ pub const DONE: u32 = 0;
 pub const REFUSED: u32 = 1;
 /// A text is not UTF-8.
 pub const NOT_UTF8: u32 = 2;
-/// The bytes are not a flat condition, or not flat facts.
+/// The bytes are not a flat condition, not flat facts, or not prepared facts.
 pub const NOT_FLAT: u32 = 3;
 /// An allocation failed.
 pub const NO_MEMORY: u32 = 4;
@@ -187,6 +187,26 @@ extern "C" {
         flat_facts_length: usize,
         outcome: *mut Outcome,
     ) -> u32;
+    /// Writes prepared facts: the facts in these lines, which are as `rustc --print cfg` prints them, as bytes that the
+    /// caller can keep to match many flat conditions.
+    pub fn nevgrasi_prepare_facts(
+        lines: *const u8,
+        lines_length: usize,
+        out: *mut u8,
+        out_length: usize,
+        outcome: *mut Outcome,
+    ) -> u32;
+    /// Decides whether a flat condition is true on the target with this name and these prepared facts. `holds` is the
+    /// answer. Texts are compared as bytes, and not checked to be UTF-8.
+    pub fn nevgrasi_prepared_matches(
+        flat: *const u8,
+        flat_length: usize,
+        name: *const u8,
+        name_length: usize,
+        prepared: *const u8,
+        prepared_length: usize,
+        outcome: *mut Outcome,
+    ) -> u32;
     /// Writes a line of JSON for each package of a graph, with the known targets on which it is in the build, as the
     /// program `manifest_check graph --json` prints them. The document is the output of `cargo metadata --format-
     /// version 1`. Builds run on the host, a known target with this name, or on the target itself if the name is empty.
@@ -196,6 +216,22 @@ extern "C" {
         document_length: usize,
         host: *const u8,
         host_length: usize,
+        out: *mut u8,
+        out_length: usize,
+        outcome: *mut Outcome,
+    ) -> u32;
+    /// Runs a command of the program `manifest_check` on files that the caller hands over, and writes its output, and
+    /// its errors after it. With `DONE`, `argument` is the exit status, and the errors are from `start` to `end` of
+    /// what is written. Each argument of the program ends with a NUL. Each file is its name, a NUL, its length in
+    /// decimal digits, a NUL, and its bytes, and the file `-` is standard input. The current folder is the root, to
+    /// which a relative name leads, and there are no environment variables. No other file exists, and nothing is
+    /// written: a call that would write a file fails as on a read-only file system. With `REFUSED`, bytes do not have
+    /// this form, and the reason is written; `argument` is then 0 for the arguments, and 1 for the files.
+    pub fn nevgrasi_run(
+        arguments: *const u8,
+        arguments_length: usize,
+        files: *const u8,
+        files_length: usize,
         out: *mut u8,
         out_length: usize,
         outcome: *mut Outcome,
