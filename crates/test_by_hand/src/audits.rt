@@ -1,7 +1,8 @@
 //! Tests of the reports on packages. The rules are those of the page of `spdx_expressions`.
 
 use licence_audits::{
-    Exception, Finding, PackageSpec, Subject, Told, audit, is_unused_entry, is_unused_exception,
+    Exception, Finding, PackageFinding, PackageSpec, Subject, audit, is_unused_entry,
+    is_unused_exception,
 };
 use semver::{Version, VersionReq};
 use spdx_expressions::{Licence, ReadError};
@@ -16,7 +17,7 @@ struct Row {
     name: &'static str,
     version: &'static str,
     license: Option<&'static str>,
-    told: &'static str,
+    findings: &'static str,
 }
 
 const ROWS: [Row; 10] = [
@@ -24,67 +25,67 @@ const ROWS: [Row; 10] = [
         name: "app",
         version: "1.0.0",
         license: Some("MIT"),
-        told: "",
+        findings: "",
     },
     Row {
         name: "both",
         version: "1.0.0",
         license: Some("ISC OR mit"),
-        told: "",
+        findings: "",
     },
     Row {
         name: "each",
         version: "1.0.0",
         license: Some("ISC AND MIT"),
-        told: "not allowed",
+        findings: "not allowed",
     },
     Row {
         name: "none",
         version: "1.0.0",
         license: None,
-        told: "missing",
+        findings: "missing",
     },
     Row {
         name: "odd",
         version: "1.0.0",
         license: Some("MIT and ISC"),
-        told: "refused",
+        findings: "refused",
     },
     Row {
         name: "tool",
         version: "2.0.0",
         license: None,
-        told: "",
+        findings: "",
     },
     Row {
         name: "tool",
         version: "2.0.1",
         license: None,
-        told: "missing",
+        findings: "missing",
     },
     Row {
         name: "extra",
         version: "1.4.0",
         license: Some("MIT AND MPL-2.0"),
-        told: "",
+        findings: "",
     },
     Row {
         name: "extra",
         version: "2.0.0",
         license: Some("MIT AND MPL-2.0"),
-        told: "not allowed",
+        findings: "not allowed",
     },
     Row {
         name: "extra",
         version: "1.2.0",
         license: Some("ISC"),
-        told: "not allowed",
+        findings: "not allowed",
     },
 ];
 
 /// Returns the report on the package at an index, or the empty text if there is none.
-fn told_at(told: &[Told], place: usize) -> &'static str {
-    for one in told {
+fn finding_at(findings: &[PackageFinding], place: usize) -> &'static str {
+    for one in findings {
         if one.place == place {
             return match &one.finding {
                 Finding::NotAllowed(_) => "not allowed",
@@ -134,7 +135,7 @@ fn exception_for(
 }
 
 /// Returns the reports on the packages, which are in the build or are not.
-fn audited(alloc: Global, are_present: bool) -> Result<Vec<Told>, AllocError> {
+fn audited(alloc: Global, are_present: bool) -> Result<Vec<PackageFinding>, AllocError> {
     let subjects = subjects_of(alloc, are_present)?;
     let exceptions = [
         exception_for(alloc, "tool", "=2.0.0", None)?,
@@ -207,25 +208,25 @@ fn is_unneeded(
 }
 
 /// Asserts the number of reported packages.
-fn assert_count(rt: &impl Abort, told: &[Told], wanted: usize) {
-    assert!(rt; told.len() == wanted);
+fn assert_count(rt: &impl Abort, findings: &[PackageFinding], wanted: usize) {
+    assert!(rt; findings.len() == wanted);
 }
 
 #[test]
 fn tells_what_is_not_allowed(rt: HostRuntime) -> Result<(), Fail> {
-    let told = audited(rt.alloc(), true)?;
-    assert_count(&rt, &told, 6);
+    let findings = audited(rt.alloc(), true)?;
+    assert_count(&rt, &findings, 6);
     for i in 0..ROWS.len() {
-        let found = told_at(&told, i);
-        assert!(rt; found == ROWS[i].told, "{i}: {found}");
+        let found = finding_at(&findings, i);
+        assert!(rt; found == ROWS[i].findings, "{i}: {found}");
     }
     Ok(())
 }
 
 #[test]
 fn what_is_in_no_build_is_not_told(rt: HostRuntime) -> Result<(), Fail> {
-    let told = audited(rt.alloc(), false)?;
-    assert_count(&rt, &told, 0);
+    let findings = audited(rt.alloc(), false)?;
+    assert_count(&rt, &findings, 0);
     Ok(())
 }
 

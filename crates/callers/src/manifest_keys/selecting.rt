@@ -6,7 +6,7 @@ ghost use Rattle.partial_facts.specs.Conditions.{kleene_condition};
 
 use cargo_platform::Platform;
 use known_targets::KnownTarget;
-use manifests::{Asked, Choice, SelectError, choose, select};
+use manifests::{Choice, SelectError, TargetFacts, choose, select};
 use partial_facts::Knowledge;
 use std::alloc::{AllocError, Global};
 use toml::Table;
@@ -35,7 +35,7 @@ pub fn selected_names<'a>(
     target: KnownTarget,
 ) -> Result<Vec<&'a str>, SelectError<'a>> {
     let facts = target.facts(alloc)?;
-    let known = Asked {
+    let known = TargetFacts {
         facts: &facts,
         added: &[],
         open: &[],
