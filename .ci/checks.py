@@ -86,12 +86,22 @@ def json_lines(text):
     return [json.loads(line) for line in text.splitlines()]
 
 
+def text_of(text):
+    """Returns a text, which may be given as its lines."""
+    return text if isinstance(text, str) else "".join(f"{line}\n" for line in text)
+
+
+def bytes_of(data):
+    """Returns the bytes of a file, which may be given as a text or as its lines."""
+    return data if isinstance(data, bytes) else text_of(data).encode()
+
+
 def write_files(folder, files):
     """Writes files by their paths into a folder, with the folders that they need. Returns the folder."""
     for path, data in files.items():
         file = pathlib.Path(folder, path)
         file.parent.mkdir(parents=True, exist_ok=True)
-        file.write_bytes(data if isinstance(data, bytes) else data.encode())
+        file.write_bytes(bytes_of(data))
     return folder
 
 

@@ -7,8 +7,7 @@ import re
 
 CALLED = {"(": "`(`", ")": "`)`", ",": "`,`", "=": "`=`", "string": "a string", "name": "an identifier"}
 UNTERMINATED = "unterminated string in cfg"
-TOKEN = re.compile(
-    r'(?P<mark>[(),=])|"(?P<string>[^"]*)"|(?:(?P<raw>r#)|(?!r#))(?P<name>[A-Za-z_][A-Za-z0-9_]*)')
+TOKEN = re.compile(r'(?P<mark>[(),=])|"(?P<string>[^"]*)"|(?:(?P<raw>r#)|(?!r#))(?P<name>[A-Za-z_][A-Za-z0-9_]*)')
 
 
 # A token is its kind, its value, where it begins, and where its own span or that of its error begins and ends. The
@@ -95,6 +94,11 @@ class Reader:
         return members
 
 
+def inside_of_key(text):
+    """Returns the expression of a key, or None for the name of a target."""
+    return text[4:-1] if text.startswith("cfg(") and text.endswith(")") else None
+
+
 def read(text, rule=Reader.expression, tokens=None):
     """Returns what the whole text is, or why it is rejected."""
     reader = Reader(tokens or cut(text))
@@ -125,3 +129,13 @@ def truth(tree, true, false, of_fact, invert):
     for it in parts:
         found = found & it if tree[0] == "all" else found | it
     return found
+
+
+def as_line(fact):
+    """Returns a fact of a tree as rustc prints it."""
+    return fact.removeprefix("r#").replace(" = ", "=", 1)
+
+
+def is_true(tree, lines):
+    """Returns whether a tree is true by these lines of facts."""
+    return truth(tree, True, False, lambda fact: as_line(fact) in lines, lambda it: not it)

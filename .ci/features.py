@@ -9,13 +9,24 @@ import collections
 Declared = collections.namedtuple("Declared", "name to kind optional default features holds")
 
 
+LIBRARIES = {"lib", "rlib", "dylib", "cdylib", "staticlib", "proc-macro"}
+
+
+def library_of(package):
+    """Returns the target that is the library of a package, or None."""
+    return next((it for it in package["targets"] if LIBRARIES & {*it["kind"]}), None)
+
+
 def library_name(package):
     """Returns the name by which other packages' code calls a package."""
-    kinds = {"lib", "rlib", "dylib", "cdylib", "staticlib", "proc-macro"}
-    for target in package["targets"]:
-        if kinds & set(target["kind"]):
-            return target["name"].replace("-", "_")
-    return package["name"].replace("-", "_")
+    return (library_of(package) or package)["name"].replace("-", "_")
+
+
+def is_edge_of(edge, declared, to):
+    """Returns whether an edge to this package is the one of a declared dependency."""
+    called = (declared["rename"] or library_name(to)).replace("-", "_")
+    return declared["name"] == to["name"] and called == edge["name"] and any(
+        (row["kind"], row["target"]) == (declared["kind"], declared["target"]) for row in edge["dep_kinds"])
 
 
 def has_root_package(document):
@@ -69,13 +80,9 @@ class Build:
         found = []
         for one in self.packages[node["id"]]["dependencies"]:
             for edge in node["deps"]:
-                to = self.packages[edge["pkg"]]
-                called = (one["rename"] or library_name(to)).replace("-", "_")
-                if edge["pkg"] == node["id"]:
-                    called = library_name(to)
-                if one["name"] == to["name"] and called == edge["name"] and any(
-                    (row["kind"], row["target"]) == (one["kind"], one["target"]) for row in edge["dep_kinds"]
-                ):
+                # A package calls itself by its own name.
+                name = one["rename"] if edge["pkg"] != node["id"] else None
+                if is_edge_of(edge, {**one, "rename": name}, self.packages[edge["pkg"]]):
                     found.append(Declared(
                         one["rename"] or one["name"], edge["pkg"], one["kind"] or "normal", one["optional"],
                         one["uses_default_features"], one["features"], self.holds_at(one["target"])))

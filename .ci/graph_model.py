@@ -9,7 +9,7 @@ import hashlib
 import json
 import re
 
-from conditions import read, truth
+from conditions import as_line, inside_of_key, read, truth
 from crates import ROOT
 from features import Build
 from targets import known_targets
@@ -51,22 +51,39 @@ def sets_of(table):
 TARGETS = sets_of(known_targets())
 
 
+def at_of(line, asked=None):
+    """Returns the targets of a line of JSON: all that are asked for, or those that it names."""
+    return frozenset((asked or TARGETS) if line["at"] == "all" else line["at"])
+
+
+def document_of(packages, deps, **more):
+    """Returns a document like those of `cargo metadata`, whose first package is the root. Each package has its `id`, by
+    which its dependencies are given."""
+    packages = [{"name": it["id"], "version": "1.0.0", "targets": [], **it} for it in packages]
+    nodes = [{"id": it["id"], "deps": deps.get(it["id"], [])} for it in packages]
+    return {"version": 1, "workspace_members": [packages[0]["id"]], "packages": packages, "resolve": {"nodes": nodes},
+            **more}
+
+
+def dependency(package, condition=None, *kinds, name=None):
+    """Returns a dependency of a document, under a condition, of these kinds."""
+    rows = [{"kind": kind, "target": condition} for kind in kinds or (None,)]
+    return {"name": name or package, "pkg": package, "dep_kinds": rows}
+
+
 def holds_at(text):
     """The known targets at which a condition is true, or where there is none, all of them."""
     if text is None:
         return frozenset(TARGETS)
-    return at_tree(read(text[4:-1])) if text.startswith("cfg(") else frozenset({text} & TARGETS.keys())
+    inside = inside_of_key(text)
+    return frozenset({text} & TARGETS.keys()) if inside is None else at_tree(read(inside))
 
 
 def at_tree(tree):
     """The known targets at which a tree is true."""
     everywhere = frozenset(TARGETS)
+    at_fact = lambda fact: frozenset(name for name, facts in TARGETS.items() if as_line(fact) in facts)
     return truth(tree, everywhere, frozenset(), at_fact, lambda it: everywhere - it)
-
-
-def at_fact(fact):
-    fact = fact.removeprefix("r#").replace(" = ", "=", 1)
-    return frozenset(name for name, facts in TARGETS.items() if fact in facts)
 
 
 Edge = collections.namedtuple("Edge", "on name kind text holds")
@@ -116,10 +133,10 @@ class Model:
         return far
 
 
-def sides_of(model, kinds, host):
+def sides_of(model, kinds, host, targets=TARGETS):
     """Returns the targets of packages by their sides, and of dependencies by the sides from and to which they lead."""
     places, led = collections.defaultdict(set), collections.defaultdict(set)
-    for target in TARGETS:
+    for target in targets:
         for place in model.distances(model.members, kinds, host, target):
             places[place].add(target)
             for edge, (_, side) in model.steps(model.members, kinds, host, target, place):

@@ -23,10 +23,11 @@ PLAIN = {"str": TEXT, "String": TEXT, "usize": {"type": "integer", "minimum": 0}
 
 
 def sources():
-    """The types that derive `Serialize`, by their names: the comment, attributes, kind, members and single type."""
+    """The types outside of tests that derive `Serialize`, by their names: the comment, attributes, kind, members and
+    single type."""
     found = {}
     for file in sorted((ROOT / "crates").glob("*/src/**/*.rt")):
-        if file.name != "tests.rt" and "Serialize" in (text := file.read_text()):
+        if "test_by_hand" not in file.parts and "Serialize" in (text := file.read_text()):
             for told, attributes, (kind, name, members, only) in documented(text, ITEM):
                 if re.search(r"derive\(.*\bSerialize\b", attributes):
                     assert name not in found, f"two types are named {name}"

@@ -7,8 +7,8 @@ an empty package. A package without a build script has no build-dependencies, si
 import json
 
 from checks import write_files
+from features import is_edge_of, library_name, library_of
 
-LIBRARIES = {"lib", "rlib", "dylib", "cdylib", "staticlib", "proc-macro"}
 TABLES = {None: "dependencies", "build": "build-dependencies", "dev": "dev-dependencies"}
 
 # The folder of the packages that are no members, and the version of empty ones.
@@ -25,21 +25,10 @@ def folder_of(package):
     return f"{package['name']}-{package['version']}"
 
 
-def library_of(package):
-    return next((it for it in package["targets"] if LIBRARIES & {*it["kind"]}), None)
-
-
 def package_of(declared, node, packages):
     """Returns the package to which a declared dependency leads, if the document has an edge."""
-    for edge in node["deps"]:
-        to = packages[edge["pkg"]]
-        library = library_of(to)
-        called = declared["rename"] or (library["name"] if library else to["name"])
-        if to["name"] == declared["name"] and called.replace("-", "_") == edge["name"] and any(
-            (it["kind"], it["target"]) == (declared["kind"], declared["target"]) for it in edge["dep_kinds"]
-        ):
-            return to
-    return None
+    found = ((edge, packages[edge["pkg"]]) for edge in node["deps"])
+    return next((to for edge, to in found if is_edge_of(edge, declared, to)), None)
 
 
 def table_of(declared, to):
@@ -61,7 +50,7 @@ def manifest_of(package, node, packages):
     lines = [f'[package]\nname = {json.dumps(package["name"])}\nversion = {json.dumps(package["version"])}\n',
              f'edition = {json.dumps(package["edition"])}\nbuild = {json.dumps(has_script and "build.rs")}\n',
              f'links = {json.dumps(package["links"])}\n' if package["links"] and has_script else "", "[lib]\n",
-             f'name = {json.dumps(library["name"].replace("-", "_"))}\n' if library else "",
+             f"name = {json.dumps(library_name(package))}\n" if library else "",
              "proc-macro = true\n" if library and "proc-macro" in library["kind"] else ""]
     lines += [table_of(it, package_of(it, node, packages)) for it in package["dependencies"]
               if has_script or it["kind"] != "build"]
