@@ -27,8 +27,7 @@ pub const MOST: usize = 64;
 pub const WORK: usize = 1_048_576;
 
 /// Returns whether a key is not compared with the `count` keys before it, because there are too many of them for so
-/// many
-/// bytes.
+/// many bytes.
 pub fn is_too_much(count: usize, bytes: usize) -> bool
     ensures { IsTrue result → WORK < count * bytes }
 {
