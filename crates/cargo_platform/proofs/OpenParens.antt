@@ -2,7 +2,7 @@
 use Rattle.std.proofs.Common.{◌≡◌, refl, sym, ap, subst, ◌∙◌, ℕ, ◌+◌, ◌-◌, ◌≤◌, ◌<◌, max, false, true≢false}
 use Rattle.std.proofs.Common.{List, [], ◌∷◌, ◌++◌, take, length, append_assoc, arith, inl, inr, Option, Some, None}
 use Rattle.std.proofs.Common.{Result, Ok, Err, zero, suc}
-use Rattle.std.specs.Prelude.{codes}
+use Rattle.std.specs.Prelude.{codes, IsUtf8}
 use Rattle.std.proofs.Math.Seq.{take-append-add}
 use Rattle.std.proofs.lemmas.Bool.{cases_lt}
 use Rattle.std.proofs.lemmas.List.{map-append, append-nil}
@@ -17,8 +17,8 @@ use Rattle.cargo_platform.specs.Spelling.{Spells, SpellMembers, group, IsTreeTex
 use Rattle.cargo_platform.specs.Nesting.{open_after, open_behind, IsWithin, IsMostOpen, IsNesting, IsPassedAt}
 use Rattle.cargo_platform.proofs.OneCut.{piece_end, one_cut_from}
 use Rattle.cargo_platform.proofs.Paths.{next_before, first_left}
-use Rattle.cargo_platform.proofs.SomeCut.{written_length}
-use Rattle.cargo_platform.specs.Nesting.{groups_down, groups_below, IsNestedBeyond, IsDeepAsTree}
+use Rattle.cargo_platform.proofs.SomeCut.{written_length, some_cut}
+use Rattle.cargo_platform.specs.Nesting.{groups_down, groups_below, IsNestedWithin, IsNestedBeyond, IsDeepAsTree}
 
 -- ---- the most that are open, as a function
 
@@ -245,6 +245,32 @@ passed text p q s o deepest most after h within call is beyond =
           (within_most 0 (lexemes h.ts) k) refl h.most_is within;
       all_open = h.open_is ∙ opens.1;
     }
+
+-- ---- no more than the bytes of a text
+
+larger_of : (o n all : ℕ) → o ≤ all → n ≤ all → max o n ≤ all
+larger_of o n all first second = omega (arith, first, second)
+
+still_inside : (o from all : ℕ) → o ≤ from → from ≤ all → o ≤ all
+still_inside o from all room inside = omega (arith, room, inside)
+
+within_bytes : (text : List ℕ) (from o : ℕ) (ts : List Placed) (last : Item) (to : ℕ) → o ≤ from → from ≤ length text
+    → ComesBehind text from ts last to → most_open o (lexemes ts) ≤ length text
+within_bytes text from o [] last to room inside c = still_inside o from (length text) room inside
+within_bytes text from o (t ∷ ts) last to room inside (c, cs) =
+    larger_of o (most_open (open_after o t.token) (lexemes ts)) (length text)
+    (still_inside o from (length text) room inside)
+    (within_bytes text t.end (open_after o t.token) ts last to
+    (room_on o _ _ from t.end room (open_by_one o t.token) refl (token_goes_on text from t.end t c)) c.1.1.inside cs)
+
+-- a text with no more bytes than this many has no more open parentheses
+pub nested_within_bytes : (text : List ℕ) (most : ℕ) → IsUtf8 text → length text ≤ most → IsNestedWithin text most
+nested_within_bytes text most utf8 short =
+    let (ts, tail, cut) = some_cut text utf8 in (
+      most_open 0 (lexemes ts),
+      (ts, tail, cut, is_most_open (lexemes ts)),
+      still_inside _ _ most (within_bytes text 0 0 ts cut.last tail (omega arith) (omega arith) cut.comes) short,
+    )
 
 -- ---- the nesting of a tree
 

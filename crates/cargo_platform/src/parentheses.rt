@@ -38,6 +38,10 @@ pub fn nesting_beyond(text: &str, most: usize) -> Option<usize>
     ensures beyond { IfSome result (λ _. IsNestedBeyond text.now most) }
     ensures within { IfNone result (IsNestedWithin text.now most) }
 {
+    // A text has no more parentheses than bytes.
+    if text.len() <= most {
+        return None;
+    }
     let mut unclosed: usize = 0;
     'tokens: for item in Tokenizer::new(text) {
         match item {

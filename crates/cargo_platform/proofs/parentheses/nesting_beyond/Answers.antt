@@ -3,8 +3,12 @@ use Rattle.cargo_platform.specs.declared.tokens.Spanned.{Spanned}
 use Rattle.cargo_platform.specs.declared.tokens.TokenFault.{TokenFault}
 use Rattle.cargo_platform.specs.Reading.{NextCall}
 use Rattle.cargo_platform.proofs.OpenParens.{one_open, nested_at_end, nested_at_fault, passed}
-use Rattle.cargo_platform.proofs.OpenParens.{passed_beyond}
+use Rattle.cargo_platform.proofs.OpenParens.{passed_beyond, nested_within_bytes}
 use Rattle.cargo_platform.proofs.parentheses.nesting_beyond.Goals as goal
+
+pub returns-then-text-most-clause-within : goal.returns-then-text-most-clause-within
+returns-then-text-most-clause-within c =
+    nested_within_bytes c.args.text.now c.args.most c.utf8.text (omega arith)
 
 pub tokens-preserved : goal.tokens-preserved
 tokens-preserved c = (
