@@ -1,9 +1,20 @@
 -- The lines of a snippet, from their parts.
 use Rattle.std.proofs.Common.{◌≡◌, ◌∙◌, sym, ap, ℕ, ◌+◌, ◌-◌, List, ◌++◌, append_assoc, length, codes, take, drop, map}
-use Rattle.std.proofs.Common.{encode_utf8_all, rules, arith, min, max}
-use Rattle.std.specs.Prelude.{nat_lt}
-use Rattle.std.specs.List.{repeat}
-use Rattle.cargo_platform.specs.Snippets.{shown, first_shown, end_shown, dots, shown_line, margin, caret_count, carets}
+use Rattle.std.proofs.Common.{encode_utf8, encode_utf8_all, rules, arith, min, max, refl, Bool, true, false, [], ◌∷◌}
+use Rattle.std.proofs.Common.{◌≤◌, ◌<◌, ◌==◌, ◌&&◌, if◌then◌else◌, chars, lit<, eqb-true}
+use Rattle.std.specs.Prelude.{nat_le, nat_lt}
+use Rattle.std.specs.List.{repeat, list_all}
+use Rattle.std.specs.Str.{IsAscii}
+use Rattle.std.proofs.Math.Seq.{take-length}
+use Rattle.std.proofs.lemmas.Bool.{agree_below_at, and_parts, leb-true, le-leb, le-ltb}
+use Rattle.std.proofs.lemmas.List.{append-nil}
+use Rattle.std.proofs.lemmas.Str.{chars-IsAscii, encode_ascii}
+use Rattle.std.proofs.lemmas.Str.Ascii.{IsAscii-cons}
+use Rattle.ucd_table.specs.Rows.{in_ranges, value_in}
+use Rattle.ucd_category.specs.GeneralCategoryRows.{general_category_rows}
+use Rattle.unicode.specs.GeneralCategory.{general_category}
+use Rattle.cargo_platform.specs.Snippets.{shown, first_shown, end_shown, dots, shown_part, shown_line, margin}
+use Rattle.cargo_platform.specs.Snippets.{caret_count, carets}
 
 -- What is shown of a text with a span after this many characters, of its whole size, and of it up to 101 after them.
 same_first : (before size : ℕ) → first_shown (min (before + 101) size) before ≡ first_shown size before
@@ -50,3 +61,60 @@ same_carets cs before inside size first n k m s c t size_is first_is n_is k_is m
     let marks = c_is ∙ (λ i. repeat (many i) (codes "^")) in
     ap (λ (z : List ℕ). m ++ z) (sym (append_assoc s c t)) ∙ sym (append_assoc m (s ++ c) t)
     ∙ (λ i. (left i ++ (spaces i ++ marks i)) ++ t)
+
+-- ---- short texts of printable ASCII
+
+abbrev pub is_printable_ascii : ℕ → Bool
+is_printable_ascii c = nat_le 0x20 c && nat_le c 0x7E
+
+printable_is_ascii : (c : ℕ) → is_printable_ascii c ≡ true → c < 127
+printable_is_ascii c h = grind (arith, h, and_parts, leb-true)
+
+-- in each of the 127 rows
+printable_is_shown : (c : ℕ) → c < 127 → (is_printable_ascii c && (shown c == c)) ≡ is_printable_ascii c
+unfolding general_category in_ranges value_in general_category_rows
+printable_is_shown c small =
+    agree_below_at (λ d. is_printable_ascii d && (shown d == d)) is_printable_ascii 127 c refl small
+
+shown_itself : (c : ℕ) → is_printable_ascii c ≡ true → shown c ≡ c
+shown_itself c h =
+    let both = printable_is_shown c (printable_is_ascii c h) ∙ h in
+    eqb-true (shown c) c (and_parts (is_printable_ascii c) (shown c == c) both).1
+
+all_ascii : (text : List ℕ) → list_all is_printable_ascii text ≡ true → IsAscii text
+all_ascii [] h = λ i. lit< tt
+all_ascii (c ∷ text) h =
+    let parts = and_parts (is_printable_ascii c) (list_all is_printable_ascii text) h in
+    IsAscii-cons c text (omega (arith, printable_is_ascii c parts.0)) (all_ascii text parts.1)
+
+all_shown : (text : List ℕ) → list_all is_printable_ascii text ≡ true → encode_utf8_all (map shown text) ≡ text
+all_shown [] h = refl
+all_shown (c ∷ text) h =
+    let parts = and_parts (is_printable_ascii c) (list_all is_printable_ascii text) h in
+    let same = shown_itself c parts.0 in
+    ap (λ d. encode_utf8 d ++ encode_utf8_all (map shown text)) same
+    ∙ ap (λ (z : List ℕ). z ++ encode_utf8_all (map shown text))
+    (encode_ascii c (omega (arith, printable_is_ascii c parts.0)))
+    ∙ ap (λ (z : List ℕ). c ∷ z) (all_shown text parts.1)
+
+uncut : (cs : List ℕ) → length cs ≤ 100 → shown_line cs 0 0 ≡ encode_utf8_all (map shown cs)
+uncut cs short =
+    ap (λ b. shown_part cs (if b then 0 else 0) (if b then length cs else min (length cs) 100))
+    (le-leb (length cs) 100 short)
+    ∙ whole (length cs - 0) (nat_lt (length cs) (length cs)) (omega arith) (le-ltb (length cs) (length cs) (omega arith))
+  where
+    whole : (n : ℕ) (b : Bool) → n ≡ length cs → b ≡ false
+        → encode_utf8_all (map shown (take n cs)) ++ dots b ≡ encode_utf8_all (map shown cs)
+    whole n b all none =
+        ap (λ d. encode_utf8_all (map shown (take n cs)) ++ dots d) none
+        ∙ append-nil (encode_utf8_all (map shown (take n cs)))
+        ∙ ap (λ m. encode_utf8_all (map shown (take m cs))) all
+        ∙ ap (λ ds. encode_utf8_all (map shown ds)) (take-length cs)
+
+-- such a text is shown as it is
+pub shown_as_is : (text : List ℕ) → length text ≤ 100 → list_all is_printable_ascii text ≡ true
+    → text ≡ shown_line (chars text) 0 0
+shown_as_is text short plain =
+    sym
+    (ap (λ cs. shown_line cs 0 0) (chars-IsAscii text (all_ascii text plain)) ∙ uncut text short
+    ∙ all_shown text plain)

@@ -1,7 +1,8 @@
 //! Shows in two lines where a text is rejected.
 
 ghost use Rattle.std.specs.Prelude.{◌≡◌, ◌≤◌, ◌+◌, IfOk, length, string_bytes, Some, map};
-ghost use Rattle.std.specs.Prelude.{encode_utf8_all, min};
+ghost use Rattle.std.specs.Prelude.{encode_utf8_all, min, nat_le, ◌&&◌};
+ghost use Rattle.std.specs.List.{list_all};
 ghost use Rattle.std.specs.Str.{chars};
 ghost use Rattle.unicode.specs.GeneralCategory.{general_category};
 ghost use Rattle.cargo_platform.specs.Errors.{fault_in, fault_meant, orig_of, span_in};
@@ -58,7 +59,17 @@ pub fn shown_start(alloc: Global, text: &str) -> Result<String, AllocError>
     // The text with U+FFFD for hidden characters, cut after 100 characters.
     ensures { IfOk result (λ s. string_bytes s ≡ shown_line (chars text.now) 0 0) }
 {
+    if text.len() <= WIDTH && is_printable_ascii(text) {
+        return String::from_str(alloc, text);
+    }
     shown_line(alloc, text, size_for(text, 0), 0, 0)
+}
+
+/// Returns whether the text consists of printable ASCII characters, which are shown as they are.
+fn is_printable_ascii(text: &str) -> bool
+    ensures { result ≡ list_all (λ c. nat_le 0x20 c && nat_le c 0x7E) text.now }
+{
+    text.bytes().all(|byte| matches!(byte, b' '..=b'~'))
 }
 
 /// Returns the two lines of a text, or nothing if the span is not within it.
