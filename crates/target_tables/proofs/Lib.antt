@@ -1,3 +1,4 @@
 pub mod Fronts
 pub mod Places
 pub mod Growing
+pub mod KnownRows

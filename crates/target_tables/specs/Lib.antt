@@ -4,3 +4,5 @@ pub mod Rows
 pub mod Refusals
 -- Blocks: for private functions, the beginning of lines
 pub mod Blocks
+-- Added: the known targets, and a target that is added to a table
+pub mod Added

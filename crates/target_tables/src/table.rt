@@ -1,13 +1,16 @@
 //! A table of targets, its rows, and those on which a condition is true.
 
-ghost use Rattle.std.specs.Prelude.{◌≡◌, ◌≢◌, ◌<◌, ◌↔◌, ℕ, [], map, length, IsTrue, IfOk, IfSome, IfNone};
-ghost use Rattle.std.specs.Prelude.{string_bytes};
+ghost use Rattle.std.specs.Prelude.{◌≡◌, ◌≢◌, ◌<◌, ◌↔◌, ℕ, [], map, length, IsTrue, IfOk, IfSome};
+ghost use Rattle.std.specs.Prelude.{string_bytes, IfNone, OnErr};
 ghost use Rattle.std.specs.List.{slice_index_or, filter, range_with_len};
 ghost use Rattle.cargo_platform.specs.Trees.{value_of, condition_of};
 ghost use Rattle.cargo_platform.specs.Facts.{fact_set, truth_of_condition, IsTrueCondition};
-ghost use Rattle.target_tables.specs.Rows.{Row, row_of, rows_of, name_at, HasNoRow, IsRowNamed, holds_at};
+ghost use Rattle.target_tables.specs.Rows.{Row, row_of, rows_of, name_at, HasNoRow, IsRowNamed, AreDistinct};
+ghost use Rattle.target_tables.specs.Rows.{holds_at};
+ghost use Rattle.target_tables.specs.Added.{known_rows, IsAdded};
 
 use cargo_platform::{Cfg, Platform};
+use known_targets::TargetSet;
 use std::alloc::{AllocError, Global};
 
 /// A target of a table.
@@ -44,13 +47,47 @@ impl TargetRow {
     }
 }
 
-/// The targets that some rustc knows.
+/// The targets that some rustc knows, and those that are added to them.
 #[derive(Debug, Drop)]
 pub struct TargetTable {
     pub(crate) rows: Vec<TargetRow>,
 }
 
 impl TargetTable {
+    /// Returns the table of the known targets. Fails only if an allocation fails.
+    pub fn of_known_targets(alloc: Global) -> Result<TargetTable, AllocError>
+        // The rows are exactly the known targets, in their order, each with its name and its facts.
+        ensures rows { IfOk result (λ table. rows_of table ≡ known_rows) }
+        // No two rows have the same name.
+        ensures distinct { IfOk result (λ table. AreDistinct (rows_of table)) }
+    {
+        let mut rows = Vec::new(alloc);
+        'targets: for target in TargetSet::all().iter() {
+            let name = String::from_str(alloc, target.name())?;
+            let facts = target.facts(alloc)?;
+            rows.push(TargetRow { name, facts })?;
+        }
+        Ok(TargetTable { rows })
+    }
+
+    /// Adds the target with this name and these facts behind the others, unless a target of the table has its name.
+    /// Returns whether it was added. Fails only if an allocation fails, and the table is then unchanged.
+    pub fn add(&mut self, alloc: Global, name: &str, facts: Vec<Cfg>) -> Result<bool, AllocError>
+        // It is added exactly if no row has the name. The other rows stay as they are.
+        ensures added { IfOk result
+            (IsAdded (rows_of self.old) name.now (map value_of facts.items) (rows_of self.new)) }
+        ensures unchanged { OnErr result (rows_of self.new ≡ rows_of self.old) }
+        // If no two rows have the same name, that stays so.
+        ensures distinct { AreDistinct (rows_of self.old) → AreDistinct (rows_of self.new) }
+    {
+        if place_of(&self.rows, name).is_some() {
+            return Ok(false);
+        }
+        let name = String::from_str(alloc, name)?;
+        self.rows.push(TargetRow { name, facts })?;
+        Ok(true)
+    }
+
     /// Returns the rows, in the order of the text.
     pub fn rows(&self) -> &[TargetRow]
         ensures { map row_of result.now ≡ rows_of self.now }
