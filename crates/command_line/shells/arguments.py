@@ -16,7 +16,7 @@ PIECE = re.compile(r'(?P<text>"(?:[^"\\]|\\.)*")|(?P<field>\w+):(?!:)|(?P<open>\
 
 # What may be given to an argument.
 KINDS = ("Flag", "ShortFlag", "FlagOf", "Value", "ValueWithout", "ValueWith", "OneOf", "Number", "Positive", "Values",
-         "Lists", "ShortValues", "Place", "Places", "Needed")
+         "ValuesWithout", "Lists", "ShortValues", "Place", "Places", "Needed")
 
 
 class Argument(NamedTuple):
@@ -36,7 +36,7 @@ class Argument(NamedTuple):
 
     @property
     def is_repeated(self):
-        return self.kind in ("Values", "Lists", "ShortValues", "Places")
+        return self.kind in ("Values", "ValuesWithout", "Lists", "ShortValues", "Places")
 
     @property
     def is_needed(self):

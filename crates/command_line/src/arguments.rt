@@ -36,6 +36,8 @@ enum Given {
     Positive(&'static str, &'static str),
     /// An option that can be repeated.
     Values(&'static str),
+    /// An option that can be repeated, which conflicts with the option of the second name.
+    ValuesWithout(&'static str, &'static str),
     /// An option that can be repeated, with values that may be joined by commas.
     Lists(&'static str),
     /// An option that can be repeated, with a short form.
@@ -72,8 +74,8 @@ const JSON: Argument = Argument {
 const TARGET: Argument = Argument {
     name: "target",
     given: Given::Needed("NAME"),
-    help: "Select this target: a known target, all for all known targets, or with --facts a custom target \
-           specification, written without .json",
+    help: "Select this target: a known target, all for all known targets, or with --facts or --target-spec \
+           a custom target specification, written without .json",
 };
 
 const FACTS: Argument = Argument {
@@ -97,6 +99,23 @@ const FACTS_OF_ALONE: Argument = Argument {
     name: "facts-of",
     given: Given::ValueWithout("FILE", "facts"),
     help: TABLE,
+};
+
+/// The help of `--target-spec`.
+const CUSTOM_TARGET: &str =
+    "Add the custom target NAME to the known targets, or to those of --facts-of, with the facts in FILE or -, as \
+     `rustc -Z unstable-options --print cfg --target NAME.json` prints them";
+
+const TARGET_SPEC: Argument = Argument {
+    name: "target-spec",
+    given: Given::Values("NAME=FILE"),
+    help: CUSTOM_TARGET,
+};
+
+const TARGET_SPEC_ALONE: Argument = Argument {
+    name: "target-spec",
+    given: Given::ValuesWithout("NAME=FILE", "facts"),
+    help: CUSTOM_TARGET,
 };
 
 const ADDED_FACTS: Argument = Argument {
@@ -242,6 +261,7 @@ const LINT: Subcommand = Subcommand {
             help: "Name each manifest that has no key under `target`",
         },
         FACTS_OF,
+        TARGET_SPEC,
         MANIFEST_PATH,
         PACKAGE,
         EXCLUDE,
@@ -270,6 +290,7 @@ const SELECT: Subcommand = Subcommand {
         },
         FACTS,
         FACTS_OF_ALONE,
+        TARGET_SPEC_ALONE,
         ADDED_FACTS,
         Argument {
             name: "open",
@@ -308,6 +329,7 @@ const MATCH: Subcommand = Subcommand {
         TARGET,
         FACTS,
         FACTS_OF_ALONE,
+        TARGET_SPEC_ALONE,
         ADDED_FACTS,
         LIMIT,
     ],
@@ -321,6 +343,7 @@ const TARGETS: Subcommand = Subcommand {
     arguments: &[
         JSON,
         FACTS_OF,
+        TARGET_SPEC,
         LIMIT,
         Argument {
             name: "key",
@@ -336,6 +359,7 @@ const FACTS_OF_TARGET: Subcommand = Subcommand {
     end: "Example: manifest_check facts x86_64-unknown-linux-gnu",
     arguments: &[
         FACTS_OF,
+        TARGET_SPEC,
         LIMIT,
         Argument {
             name: "name",
@@ -408,6 +432,7 @@ const GRAPH: Subcommand = Subcommand {
                    host, on which build scripts run",
         },
         FACTS_OF,
+        TARGET_SPEC,
         Argument {
             name: "package",
             given: Given::Values("NAME"),
@@ -583,7 +608,9 @@ fn to_subcommand<'a>(alloc: Global, told: &Subcommand) -> Result<Command<'a>, Al
 fn to_argument<'a>(alloc: Global, told: &Argument) -> Result<Arg<'a>, AllocError> {
     let made = Arg::new(alloc, told.name).help(told.help);
     match told.given {
-        Given::ValueWithout(_, other) => given_to(made, told).conflicts_with(other),
+        Given::ValueWithout(_, other) | Given::ValuesWithout(_, other) => {
+            given_to(made, told).conflicts_with(other)
+        }
         Given::ValueWith(_, needed) => given_to(made, told).requires_arg(needed),
         Given::FlagOf(needed, others) => given_to(made, told)
             .requires_arg(needed)?
@@ -606,7 +633,9 @@ fn given_to<'a>(made: Arg<'a>, told: &Argument) -> Arg<'a> {
         Given::Needed(value) => option(made, told.name, value)
             .required(true)
             .action(ArgAction::Append),
-        Given::Values(value) => option(made, told.name, value).action(ArgAction::Append),
+        Given::Values(value) | Given::ValuesWithout(value, _) => {
+            option(made, told.name, value).action(ArgAction::Append)
+        }
         Given::Lists(value) => option(made, told.name, value)
             .action(ArgAction::Append)
             .value_delimiter(','),

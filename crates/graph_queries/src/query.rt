@@ -45,7 +45,7 @@ pub struct GraphArguments<'a> {
     /// The side whose packages, edges and features are printed, `target` or `host`. `None` prints both.
     pub side: Option<&'a str>,
     pub host: Option<&'a str>,
-    /// The file of `--facts-of`: its name as it is displayed, and its targets, which replace the known ones.
+    /// The targets of `--facts-of` and `--target-spec`, which replace the known ones, and what messages call them.
     pub facts_of: Option<(&'a str, &'a TargetTable)>,
     /// The names of the workspace members that are roots. If there are none, all members are roots.
     pub packages: &'a [&'a str],
@@ -96,7 +96,7 @@ pub struct GraphQuery<'a> {
     /// The side whose packages, edges and features are selected, or `None` for both.
     pub side: Option<Side>,
     pub host: Option<KnownTarget>,
-    /// The targets of a file, if `--facts-of` names one. Each known target then represents a group of them.
+    /// The targets that replace the known ones, if there are any. Each known target then represents a group of them.
     pub groups: Option<&'a Groups<'a>>,
     pub packages: &'a [&'a str],
     pub show: Show,
@@ -119,7 +119,7 @@ const ALL_KINDS: Kinds = Kinds {
 fn no_target(alloc: Global, name: &str) -> Result<String, AllocError> {
     let shown = shown_name(alloc, name)?;
     let hint = if name.ends_with(".json") {
-        "; `graph` takes no target specification, and --facts-of its facts"
+        "; `graph` takes the name of a custom target, and --target-spec its facts"
     } else {
         ""
     };
@@ -229,7 +229,7 @@ fn misplaced(arguments: &GraphArguments<'_>) -> Option<&'static str> {
         };
     }
     if arguments.facts_of.is_some() {
-        return Some("--against and --facts-of exclude each other");
+        return Some("--against excludes --facts-of and --target-spec");
     }
     if arguments.markdown && arguments.json {
         return Some("--markdown and --json exclude each other");

@@ -1,11 +1,12 @@
-//! The targets of another rustc, from a file that replaces the built-in ones.
+//! Targets that replace the built-in ones: those of another rustc, from a file, or any with others that are added.
 
+use crate::questions::facts_of_lines;
 use cargo_platform::{Cfg, CfgExpr, Platform};
 use exact_answers::{CanSelect, Known, MustSelect, always_platform, can_hold_platform};
 use input_limits::without_mark;
 use key_answers::answer::Refusal;
 use key_answers::printing::{refused_fact, shown_name};
-use known_targets::having;
+use known_targets::{RUSTC_VERSION, having};
 use manifest_lints_findings::near;
 use manifests::TargetFacts;
 use partial_facts::{decide_platform, residual_platform};
@@ -13,13 +14,13 @@ use std::alloc::{AllocError, Global};
 use std::collections::BTreeSet;
 use target_tables::{TableError, TargetRow, TargetTable, read_table};
 
-/// The maximal number of targets in a file. Names are searched linearly.
+/// The maximal number of targets. Names are searched linearly.
 const MOST: usize = 10_000;
 
-/// The targets of a file.
+/// The targets of a file, or the known ones, and others that are added to them.
 #[derive(Drop)]
 pub struct GivenTargets {
-    /// The path of the file, as it is displayed.
+    /// The path of the file, as it is displayed, or what else messages call the targets.
     pub file: String,
     table: TargetTable,
 }
@@ -31,7 +32,7 @@ pub enum FactsFrom<'a> {
     Known,
     /// Lines with the facts of every target.
     Lines(&'a str),
-    /// The targets of a file.
+    /// The targets of a table.
     File(&'a GivenTargets),
 }
 
@@ -107,6 +108,37 @@ impl GivenTargets {
             Ok(table) => Ok(GivenTargets { file, table }),
             Err(error) => Err(refused_file(alloc, file.as_str(), &error)?),
         }
+    }
+
+    /// Returns the known targets.
+    pub fn known(alloc: Global) -> Result<GivenTargets, AllocError> {
+        Ok(GivenTargets {
+            file: format!(in alloc; "rustc {RUSTC_VERSION}")?,
+            table: TargetTable::of_known_targets(alloc)?,
+        })
+    }
+
+    /// Adds the target of this name with the facts in a text, one on each line. Fails with a message if there is
+    /// already a target of this name, if a line is not a fact, if there is no fact, and if there are too many targets.
+    pub fn add(&mut self, alloc: Global, name: &str, text: &str) -> Result<(), Refusal> {
+        let facts = facts_of_lines(alloc, text)?;
+        if facts.is_empty() {
+            let line = String::from_str(alloc, "error: the file has no facts\n")?;
+            return Err(Refusal::Unusable(line));
+        }
+        if self.count() >= MOST {
+            let file = self.file.as_str();
+            let line = format!(in alloc;
+                "error: {file} has {MOST} targets, and no more are allowed\n"
+            )?;
+            return Err(Refusal::Unusable(line));
+        }
+        if self.table.add(alloc, name, facts)? {
+            return Ok(());
+        }
+        let file = self.file.as_str();
+        let line = format!(in alloc; "error: {file} has a target of this name\n")?;
+        Err(Refusal::Unusable(line))
     }
 
     /// Returns the targets, in the order of the file.

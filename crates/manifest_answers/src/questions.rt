@@ -320,7 +320,7 @@ fn line_of_fact(text: &str, facts: usize) -> usize {
 }
 
 /// Parses the facts in the lines of a file.
-fn facts_of_lines(alloc: Global, text: &str) -> Result<Vec<Cfg>, Refusal> {
+pub fn facts_of_lines(alloc: Global, text: &str) -> Result<Vec<Cfg>, Refusal> {
     match read_facts(alloc, fact_lines_of(alloc, text)?.as_str()) {
         Ok(facts) => Ok(facts),
         Err(FactsError::Memory(refused)) => Err(Refusal::Memory(refused)),

@@ -3,12 +3,13 @@
 use crate::explaining::{explained_code, listed_codes};
 use crate::graphs::graph_answer;
 use crate::levels::{command_rules, fails_from};
-use crate::limits::{limit_of, text_of};
+use crate::limits::{limit_of, reason_in, text_of};
 use crate::linting::{LintOptions, lint_each};
 use crate::named::{Named, named_manifests};
 use crate::other_rustc::OtherRustc;
 use crate::styles::{Shown, style_of};
 use crate::target_names::{EVERY, Flagged, flagged_targets, named_targets};
+use crate::target_specs::with_custom_targets;
 use cargo_platform::shown_text;
 use clap::ArgMatches;
 use input_limits::{INPUT, Unusable};
@@ -40,7 +41,7 @@ fn facts_file<R: Files + Input + AllocGlobal>(
 }
 
 /// Reads the targets in the file that `--facts-of` names, or on standard input, if the option is given.
-pub fn given_targets<R: Files + Input + AllocGlobal>(
+fn targets_of_file<R: Files + Input + AllocGlobal>(
     rt: &R,
     matches: &ArgMatches<'_>,
 ) -> Result<Option<GivenTargets>, Refusal> {
@@ -53,7 +54,17 @@ pub fn given_targets<R: Files + Input + AllocGlobal>(
     Ok(Some(GivenTargets::of(alloc, file, text.as_str())?))
 }
 
-/// Returns the source of the facts of targets, by the options `--facts` and `--facts-of`.
+/// Reads the targets that replace the known ones, by the options `--facts-of` and `--target-spec`, if one is given.
+pub fn given_targets<R: Files + Input + AllocGlobal>(
+    rt: &R,
+    matches: &ArgMatches<'_>,
+) -> Result<Option<GivenTargets>, Refusal> {
+    let given = targets_of_file(rt, matches)?;
+    let values = matches.get_strs("target-spec").unwrap_or(&[]);
+    with_custom_targets(rt, given, values, limit_of(matches))
+}
+
+/// Returns the source of the facts of targets, by the options `--facts`, `--facts-of` and `--target-spec`.
 fn facts_from<'a>(lines: &'a Option<String>, given: &'a Option<GivenTargets>) -> FactsFrom<'a> {
     match (lines, given) {
         (_, Some(given)) => FactsFrom::File(given),
@@ -147,7 +158,7 @@ fn select_or_report<R: Files + Input + Env + AllocGlobal + Clone + Drop>(
     }
 }
 
-/// Returns the rustc whose targets count instead of the built-in ones, if `--facts-of` is given.
+/// Returns the rustc whose targets count instead of the built-in ones, if `--facts-of` or `--target-spec` is given.
 fn other_rustc<R: Files + Input + AllocGlobal>(
     rt: &R,
     matches: &ArgMatches<'_>,
@@ -158,17 +169,21 @@ fn other_rustc<R: Files + Input + AllocGlobal>(
     }
 }
 
-/// Returns a line on the file that `--facts-of` names, or on its targets, as something that can't be used.
+/// Returns a message on a value of `--target-spec`, which names no file first, or on the file that `--facts-of` names,
+/// or on its targets, as something that can't be used.
 fn unusable_targets(
     alloc: Global,
     matches: &ArgMatches<'_>,
-    line: &str,
+    message: &str,
 ) -> Result<Unusable, AllocError> {
-    let line = line.strip_suffix("\n").unwrap_or(line);
+    if message.starts_with("error: ") {
+        return Ok(Unusable {
+            reason: String::from_str(alloc, reason_in(message, ""))?,
+            file: None,
+        });
+    }
     let file = shown_text(alloc, word(matches, "facts-of"))?;
-    let behind = line.strip_prefix(file.as_str()).unwrap_or(line);
-    let reason = behind.strip_prefix(": ").unwrap_or(behind);
-    let reason = reason.strip_prefix("error: ").unwrap_or(reason);
+    let reason = reason_in(message, file.as_str());
     Ok(Unusable {
         reason: format!(in alloc; "cannot read the targets of `--facts-of`: {reason}")?,
         file: Some(file),

@@ -91,7 +91,7 @@ fn answer_of<R: Files + Input + Env + AllocGlobal>(
     }
 }
 
-/// Runs `graph` with the files that options name and the targets of `--facts-of`, and reads the lock file.
+/// Runs `graph` with the files that options name and the given targets, and reads the lock file.
 fn answer_locked<R: Files + Input + Env + AllocGlobal>(
     rt: &R,
     matches: &ArgMatches<'_>,
@@ -128,7 +128,7 @@ fn seconds_of<R: Env + AllocGlobal>(
     }
 }
 
-/// Runs `graph` with the files that options name, and with the targets of `--facts-of`.
+/// Runs `graph` with the files that options name, and with the given targets.
 fn answer_with<R: Files + Input + Env + AllocGlobal>(
     rt: &R,
     matches: &ArgMatches<'_>,

@@ -16,6 +16,7 @@ mod reports;
 mod roots;
 mod styles;
 mod target_names;
+mod target_specs;
 mod words;
 
 use clap::Error;

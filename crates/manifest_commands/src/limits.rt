@@ -13,6 +13,14 @@ pub fn limit_of(matches: &ArgMatches<'_>) -> u64 {
     matches.get_one::<u64>("limit").unwrap_or(LIMIT)
 }
 
+/// Returns the reason in a message on a file, or in one on no file.
+pub fn reason_in<'a>(message: &'a str, file: &str) -> &'a str {
+    let message = message.strip_suffix("\n").unwrap_or(message);
+    let behind = message.strip_prefix(file).unwrap_or(message);
+    let reason = behind.strip_prefix(": ").unwrap_or(behind);
+    reason.strip_prefix("error: ").unwrap_or(reason)
+}
+
 /// Returns the text of a file that was read up to this limit, or the error that says why there is none.
 fn text_read(
     alloc: Global,

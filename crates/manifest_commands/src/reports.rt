@@ -33,7 +33,7 @@ impl Report {
 #[derive(Drop)]
 struct Request<'a, 'b> {
     query: GraphQuery<'a>,
-    /// The targets of `--facts-of`.
+    /// The targets of `--facts-of` and `--target-spec`.
     table: Option<TableSelection<'a>>,
     kind: Kind<'a, 'b>,
 }
