@@ -17,6 +17,9 @@ LINUX, WINDOWS = "x86_64-unknown-linux-gnu", "x86_64-pc-windows-msvc"
 CRATE = ROOT / "crates" / "manifest_check"
 MANIFESTS = {file.name: file.read_bytes() for file in (CRATE / "manifests").iterdir()}
 
+# The name of a target whose facts are in NAME.cfg, and what messages call the known targets with it.
+CUSTOM, CALLED = "my-own-target", "rustc 1.95.0 with --target-spec"
+
 COLOUR = re.compile(r"\x1b\[\d*m")
 
 # Files of facts that questions.json names, beside the manifests.
