@@ -139,7 +139,7 @@ const PACKAGE: Argument = Argument {
 const EXCLUDE: Argument = Argument {
     name: "exclude",
     given: Given::Values("SPEC|PATH"),
-    help: "Leave out these packages, or the manifests in or below this folder; PATH may be a glob, as in .gitignore",
+    help: "Leave out these packages, or the manifests at or below this path; PATH may be a glob, as in .gitignore",
 };
 
 const NO_WORKSPACE: Argument = Argument {

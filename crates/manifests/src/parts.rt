@@ -14,7 +14,7 @@ enum Part {
     Key,
     /// A field of a key of `target`.
     Field,
-    /// A dependency table of the package.
+    /// A dependency table of the package, or `workspace.dependencies`.
     Dependencies,
     /// `package`.
     Package,
@@ -91,6 +91,7 @@ impl Part {
             Part::Key => Part::Field,
             Part::Dependencies if is_odd_package(name) => Part::Field,
             Part::Package | Part::Workspace if name == "target" => Part::Field,
+            Part::Workspace if name == "dependencies" => Part::Dependencies,
             Part::Package | Part::Workspace if name == "metadata" => Part::Metadata,
             Part::Metadata if name == "manifest-check" => Part::Settings,
             Part::Metadata if is_tool(name) => Part::Field,
@@ -175,7 +176,7 @@ impl Within {
         self.part == Part::Field
     }
 
-    /// Returns whether the place of a text in the part is recorded: in an entry of a list in the metadata, and in a
+    /// Returns whether the place of a value is recorded: of an entry of a list in the metadata, and of a text in a
     /// document that is no manifest.
     pub fn is_entry(&self) -> bool {
         self.part == Part::Entry || self.part == Part::Any
@@ -190,7 +191,7 @@ impl Within {
     pub fn records(&self, name: &str) -> bool {
         match self.part {
             Part::Top => at_top(name) == Part::Field,
-            Part::Key => !is_dependencies(name),
+            Part::Key => true,
             Part::Dependencies => is_odd_package(name),
             Part::Package | Part::Workspace => name == "target",
             Part::Metadata => is_tool(name),

@@ -213,11 +213,12 @@ impl Places {
     /// - at the top, those that begin with `cfg(`, names of known targets, `dev_dependencies` and `build_dependencies`,
     ///   and others of 5 to 7 bytes;
     /// - `workspace.target` and `package.target`;
-    /// - in the dependency tables of the package, `target` and those that begin with `cfg(`;
+    /// - in the dependency tables of the package and in `workspace.dependencies`, `target` and those that begin with
+    ///   `cfg(`;
     /// - the table `manifest-check` of the metadata, and its fields; and a table `manifest_check` there.
     ///
-    /// An entry of such a field has its index as the last part of its path. Its place is that of the text that names a
-    /// lint.
+    /// An entry of such a field has its index as the last part of its path. The place of an entry that is a table is
+    /// that of its `code`.
     pub fn at_path(&self, path: &str) -> Option<Location> {
         self.others.get(path).copied()
     }
@@ -252,8 +253,7 @@ impl Places {
         path_behind(alloc, path.as_str(), field)
     }
 
-    /// Returns the place of a field of a key of `target`, if it is recorded. Dependency tables are not. Fails if an
-    /// allocation fails.
+    /// Returns the place of a field of a key of `target`, if it is known. Fails if an allocation fails.
     pub fn at_field(
         &self,
         alloc: Global,
@@ -459,15 +459,16 @@ impl<'a> Walk<'a> {
 
     /// Reads a string, a number, a boolean or a date.
     fn scalar(&mut self, within: &Within) -> Result<(), Stop> {
-        if !starts_string(self.cursor.rest) {
+        let start = self.cursor.position;
+        let is_text = starts_string(self.cursor.rest);
+        if is_text {
+            let (_text, rest) = quoted(self.alloc, self.cursor.rest)?;
+            self.cursor.go_to(rest);
+        } else {
             let (_scalar, rest) = unquoted(self.alloc, self.cursor.rest)?;
             self.cursor.go_to(rest);
-            return Ok(());
         }
-        let start = self.cursor.position;
-        let (_text, rest) = quoted(self.alloc, self.cursor.rest)?;
-        self.cursor.go_to(rest);
-        if within.is_entry() {
+        if within.is_entry() && (is_text || !within.is_any()) {
             let at = self.from(start);
             self.places
                 .note_other(self.alloc, within.path.as_str(), at)?;

@@ -1,5 +1,5 @@
 //! The packages and folders that arguments choose or leave out, by Cargo's book ("Package ID Specifications": a name,
-//! with a version or without; `cargo build --package`: globs) and by the rules of `.gitignore` for folders.
+//! with a version or without; `cargo build --package`: globs) and by the rules of `.gitignore` for paths.
 
 use crate::documents::{Documents, real_path};
 use crate::finding::{Found, ManifestSelection, root_of};
@@ -15,8 +15,8 @@ use toml::Table;
 #[derive(Drop)]
 struct Candidate {
     file: String,
-    /// The real path of its folder.
-    folder: String,
+    /// Its real path.
+    real: String,
     name: String,
     version: String,
 }
@@ -84,10 +84,9 @@ fn candidate_at<R: Files + Env + AllocGlobal>(
     } else {
         own
     };
-    let real = real_path(rt, file)?;
     Ok(Candidate {
         file: String::from_str(rt.alloc(), file)?,
-        folder: String::from_str(rt.alloc(), folder_of(real.as_str()))?,
+        real: real_path(rt, file)?,
         name,
         version,
     })
@@ -139,14 +138,14 @@ fn means(alloc: Global, text: &str, candidate: &Candidate) -> Result<bool, Alloc
     Ok(has_version && takes_name(alloc, name, candidate.name.as_str())?)
 }
 
-/// Returns whether a glob takes a folder, or one above it, by the names of its path.
-fn takes_above(alloc: Global, glob: &str, folder: &str) -> Result<bool, AllocError> {
+/// Returns whether a glob takes a path, or one of a folder above it, by the names of the path.
+fn takes_above(alloc: Global, glob: &str, path: &str) -> Result<bool, AllocError> {
     let pattern = match Pattern::from_str(alloc, glob) {
         Ok(pattern) => pattern,
         Err(PatternError::Fault(_)) => return Ok(false),
         Err(PatternError::Memory(refused)) => return Err(refused),
     };
-    let names = names_of(alloc, folder)?;
+    let names = names_of(alloc, path)?;
     for count in 1..=names.len() {
         if pattern.takes(alloc, names.get(..count).unwrap_or(&[]))? {
             return Ok(true);
@@ -155,9 +154,9 @@ fn takes_above(alloc: Global, glob: &str, folder: &str) -> Result<bool, AllocErr
     Ok(false)
 }
 
-/// Returns whether a glob without a slash takes the name of a folder or of one above it.
-fn takes_some_name(alloc: Global, glob: &str, folder: &str) -> Result<bool, AllocError> {
-    for name in folder.split('/') {
+/// Returns whether a glob without a slash takes one of the names of a path.
+fn takes_some_name(alloc: Global, glob: &str, path: &str) -> Result<bool, AllocError> {
+    for name in path.split('/') {
         if !name.is_empty() && takes_name(alloc, glob, name)? {
             return Ok(true);
         }
@@ -165,19 +164,24 @@ fn takes_some_name(alloc: Global, glob: &str, folder: &str) -> Result<bool, Allo
     Ok(false)
 }
 
-/// Returns whether a text means the folder of a candidate or one above it, as a line of `.gitignore` does: one with a
-/// slash before its end begins at the current folder, and another one is the name of any folder. An absolute path is
-/// one from the root of the file system on.
-fn means_folder(alloc: Global, text: &str, candidate: &Candidate) -> Result<bool, AllocError> {
-    if text.starts_with('/') {
-        return takes_above(alloc, text, candidate.folder.as_str());
-    }
-    let text = text.strip_suffix("/").unwrap_or(text);
-    let folder = shorter(alloc, folder_of(candidate.file.as_str()))?;
+/// Returns whether a text means the path of a candidate or a folder above it, as a line of `.gitignore` does: one with
+/// a slash before its end begins at the current folder, and another one is the name of any file or folder. With a slash
+/// at its end it means only folders. An absolute path is one from the root of the file system on.
+fn means_path(alloc: Global, text: &str, candidate: &Candidate) -> Result<bool, AllocError> {
+    let (text, is_folder) = match text.strip_suffix("/") {
+        Some(text) => (text, true),
+        None => (text, false),
+    };
+    let path = if text.starts_with('/') {
+        candidate.real.as_str()
+    } else {
+        candidate.file.as_str()
+    };
+    let path = shorter(alloc, if is_folder { folder_of(path) } else { path })?;
     if !text.contains('/') {
-        return takes_some_name(alloc, text, folder.as_str());
+        return takes_some_name(alloc, text, path.as_str());
     }
-    takes_above(alloc, text, folder.as_str())
+    takes_above(alloc, text, path.as_str())
 }
 
 /// Returns whether one of the texts means the package of a candidate.
@@ -190,9 +194,9 @@ fn some_means(alloc: Global, texts: &[String], candidate: &Candidate) -> Result<
     Ok(false)
 }
 
-/// Returns whether a text leaves out a candidate, by its package or by its folder.
+/// Returns whether a text leaves out a candidate, by its package or by its path.
 fn leaves_out(alloc: Global, text: &str, candidate: &Candidate) -> Result<bool, AllocError> {
-    Ok(means(alloc, text, candidate)? || means_folder(alloc, text, candidate)?)
+    Ok(means(alloc, text, candidate)? || means_path(alloc, text, candidate)?)
 }
 
 /// Returns whether one of the texts leaves out a candidate.
@@ -278,7 +282,7 @@ fn add_unneeded(
         if !leaves_out_some(alloc, text.as_str(), candidates)? {
             let text = shown_text(alloc, text.as_str())?;
             let line = format!(in alloc;
-                "warning: --exclude {text}: no package or folder matches\n"
+                "warning: --exclude {text}: no package or path matches\n"
             )?;
             found.warnings.push_str(line.as_str())?;
         }
