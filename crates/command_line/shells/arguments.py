@@ -36,7 +36,7 @@ class Argument(NamedTuple):
 
     @property
     def is_repeated(self):
-        return self.kind in ("Values", "ValuesWithout", "Lists", "ShortValues", "Places")
+        return self.kind in ("Values", "ValuesWithout", "Lists", "ShortValues", "Places", "Needed")
 
     @property
     def is_needed(self):

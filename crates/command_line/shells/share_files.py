@@ -13,8 +13,9 @@ PROGRAM, PLUGIN = "manifest_check", "cargo-manifest-check"
 COMMANDS = subcommands()
 NAMES = " ".join(it.name for it in COMMANDS)
 
-# The commands that print the names of all known targets, and of all lints.
+# The commands that print the names of all known targets, these after `all`, and the names of all lints.
 LISTS = {"target": f"{PROGRAM} targets 'cfg(all())' 2>/dev/null | sed '$d'",
+         "selection": f"echo all; {PROGRAM} targets 'cfg(all())' 2>/dev/null | sed '$d'",
          "lint": f"{PROGRAM} lint --list-codes 2>/dev/null | cut -d ' ' -f 1"}
 
 # The arguments whose value is the name of a target: two options, and the argument of `facts`.
@@ -28,8 +29,9 @@ SECTIONS = {
     "EXIT STATUS": re.findall(r"^\| (\d) \| (.*) \|$", section("docs/commands/README.md", "Exit status"), re.M),
     "ENVIRONMENT": (
         ("NO_COLOR, CARGO_TERM_COLOR, TERM", "Decide with --color auto whether lint prints colours."),
-        ("CARGO_ENCODED_RUSTFLAGS, RUSTFLAGS, CARGO_BUILD_RUSTFLAGS",
-         "Flags in which select looks for --cfg, as Cargo does."),
+        ("CARGO_ENCODED_RUSTFLAGS, RUSTFLAGS, CARGO_BUILD_RUSTFLAGS, CARGO_TARGET_NAME_RUSTFLAGS",
+         "Flags in which select looks for --cfg, as Cargo does. NAME is that of the target."),
+        ("CARGO_HOME", "The folder with the user's own configuration of Cargo; by default ~/.cargo."),
         ("SOURCE_DATE_EPOCH", "Sets the time in what graph --html and graph --format write, in seconds since 1970."),
     ),
     "FILES": (
@@ -44,24 +46,35 @@ def quoted(text):
     return "'" + text.replace("'", "'\\''") + "'"
 
 
+# How bash completes the last one of lints that are joined by commas.
+LAST_LINT = (f"""COMPREPLY=($(compgen -P "${{begun%"${{begun##*,}}"}}" -W "$({LISTS['lint']})" """
+             """-- "${begun##*,}"))""")
+
 # How each shell completes a value, by its kind.
 VALUES = {
     "bash": {"words": "COMPREPLY=($(compgen -W 'WORDS' -- \"$begun\"))",
              "path": 'COMPREPLY=($(compgen -f -- "$begun"))', "text": "COMPREPLY=()",
-             **{kind: f'COMPREPLY=($(compgen -W "$({text})" -- "$begun"))' for kind, text in LISTS.items()}},
+             **{kind: f'COMPREPLY=($(compgen -W "$({text})" -- "$begun"))' for kind, text in LISTS.items()},
+             "lints": LAST_LINT},
     "zsh": {"words": "(WORDS)", "path": "_files", "text": " ", **{kind: f"_{PROGRAM}_{kind}s" for kind in LISTS}},
     "fish": {"words": " -x -a 'WORDS'", "path": " -r -F", "text": " -x",
              **{kind: f" -x -a {quoted(f'({text})')}" for kind, text in LISTS.items()}},
 }
+# zsh and fish complete only the first lint of a list.
+for shell in ("zsh", "fish"):
+    VALUES[shell]["lints"] = VALUES[shell]["lint"]
 
 
 def kind_of(argument):
-    """Returns the kind of an argument's value: a word of a list, a target, a lint, a path, or another text."""
+    """Returns the kind of an argument's value: a word of a list, a target, a target or `all`, a lint, lints that are
+    joined by commas, a path, or another text."""
     if argument.words:
         return "words"
     if argument.name in TARGETS:
-        return "target"
-    return "lint" if argument.value in ("LINT", "LINTS") else "path" if argument.value in PATHS else "text"
+        return "selection" if argument.kind == "Needed" else "target"
+    if argument.value in ("LINT", "LINTS"):
+        return argument.value.lower()
+    return "path" if argument.value in PATHS else "text"
 
 
 def value(shell, argument):
