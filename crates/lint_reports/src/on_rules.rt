@@ -1,7 +1,7 @@
 //! Diagnostics on the rules in a manifest that are invalid, or that nothing needs.
 
 use crate::codes::{UnknownLint, unknown_subject};
-use crate::settings::{Fault, FaultAt, TOOL, UNDERSCORED_TOOL, WORDS};
+use crate::settings::{Fault, FaultAt, TOOL, UNDERSCORED_TOOL, WORDS, is_fact};
 use cargo_platform::{inside_cfg, shown_start};
 use diagnostics::{Diagnostic, Rule, default_level};
 use manifest_lints_findings::{Children, Lint, near};
@@ -51,11 +51,11 @@ fn no_fact(alloc: Global, text: &str) -> Result<Wrong, AllocError> {
     let shown = shown_start(alloc, text)?;
     let message = format!(in alloc; "`{shown}` is not a fact")?;
     match inside_cfg(text) {
-        Some(inside) => {
+        Some(inside) if is_fact(alloc, inside)? => {
             let inside = shown_start(alloc, inside)?;
             Wrong::or_meant(alloc, message, inside.as_str())
         }
-        None => Wrong::noted(
+        _ => Wrong::noted(
             alloc,
             message,
             "facts are written as `loom` and `backend=\"a\"`",
@@ -66,7 +66,7 @@ fn no_fact(alloc: Global, text: &str) -> Result<Wrong, AllocError> {
 /// Returns what is wrong with a word that sets nothing.
 fn unknown_word(alloc: Global, word: &str) -> Result<Wrong, AllocError> {
     let shown = shown_start(alloc, word)?;
-    let message = format!(in alloc; "nothing is set by `{shown}`")?;
+    let message = format!(in alloc; "unknown setting: `{shown}`")?;
     match near(word, &WORDS) {
         Some(meant) => Wrong::or_meant(alloc, message, meant),
         None => Ok(Wrong::alone(alloc, message)),
@@ -85,7 +85,7 @@ fn unknown_code(alloc: Global, word: &str) -> Result<Wrong, AllocError> {
 /// Returns the message for an entry of a list that is neither a lint nor a rule for a key.
 fn no_entry_message(alloc: Global, word: &str) -> Result<String, AllocError> {
     format!(in alloc;
-        "an entry of `{word}` is neither a code nor a table with the texts `key` and `code`"
+        "an entry of `{word}` is neither the name of a lint nor a table with `key` and `code`"
     )
 }
 
@@ -109,7 +109,7 @@ fn wrong_of(alloc: Global, fault: &Fault) -> Result<Wrong, AllocError> {
             format!(in alloc; "`{text}` is not the name of a target")?
         }
         Fault::Underscored => {
-            let message = format!(in alloc; "nothing is set by the table `{UNDERSCORED_TOOL}`")?;
+            let message = format!(in alloc; "the table `{UNDERSCORED_TOOL}` has no effect")?;
             return Wrong::or_meant(alloc, message, TOOL);
         }
     };
@@ -122,9 +122,11 @@ fn unneeded_message(alloc: Global, rule: &Rule) -> Result<String, AllocError> {
     match &rule.key {
         Some(key) => {
             let key = shown_start(alloc, key.as_str())?;
-            format!(in alloc; "nothing on the key `{key}` needs that `{subject}` is allowed")
+            format!(in alloc;
+                "`{subject}` would not be reported on the key `{key}` without this entry either"
+            )
         }
-        None => format!(in alloc; "nothing needs that `{subject}` is allowed"),
+        None => format!(in alloc; "`{subject}` would not be reported without this entry either"),
     }
 }
 

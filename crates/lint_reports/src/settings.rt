@@ -92,7 +92,7 @@ pub fn settings_at<'a>(manifest: &'a Table, part: &str) -> Option<&'a Value> {
 
 /// Returns whether a text is a fact, as `rustc --print cfg` prints it. Spaces around `=` are ignored. Fails if memory
 /// is refused.
-fn is_fact(alloc: Global, text: &str) -> Result<bool, AllocError> {
+pub fn is_fact(alloc: Global, text: &str) -> Result<bool, AllocError> {
     match Cfg::from_str(alloc, text) {
         Ok(_fact) => Ok(true),
         Err(ReadError::Parse(_error)) => Ok(false),

@@ -42,6 +42,9 @@ pub struct WrongPlace {
     pub suggestion: Option<&'static str>,
 }
 
+/// The name of the table that contains the keys.
+const TARGET: &str = "target";
+
 /// The names of a package's dependency tables.
 const TABLES: [&str; 3] = ["dependencies", "dev-dependencies", "build-dependencies"];
 
@@ -65,10 +68,8 @@ fn has_keys(value: &Value) -> bool {
 }
 
 /// Returns the diagnostic on a table of this name, which Cargo does not read.
-fn unread(alloc: Global, name: &str, path: String, meant: &str) -> Result<WrongPlace, AllocError> {
+fn unread(alloc: Global, name: &str, path: String, help: String) -> Result<WrongPlace, AllocError> {
     let name = shown_start(alloc, name)?;
-    let meant = shown_start(alloc, meant)?;
-    let help = format!(in alloc; "did you mean `{meant}`?")?;
     Ok(WrongPlace {
         lint: Lint::Misplaced,
         level: Level::Warning,
@@ -89,7 +90,9 @@ fn add_unread(
     found: &mut Vec<WrongPlace>,
 ) -> Result<(), AllocError> {
     let path = path_of(alloc, &[name])?;
-    found.push(unread(alloc, name, path, meant)?)?;
+    let meant = shown_start(alloc, meant)?;
+    let help = format!(in alloc; "did you mean `{meant}`?")?;
+    found.push(unread(alloc, name, path, help)?)?;
     Ok(())
 }
 
@@ -126,7 +129,10 @@ fn target_in<'a>(manifest: &'a Table, part: &str) -> Option<&'a Value> {
 fn add_inside(alloc: Global, part: &str, found: &mut Vec<WrongPlace>) -> Result<(), AllocError> {
     let path = path_of(alloc, &[part, "target"])?;
     let name = format!(in alloc; "{part}.target")?;
-    found.push(unread(alloc, name.as_str(), path, "target")?)?;
+    let help = format!(in alloc;
+        "move `target` out of `{part}`, to the top level of the manifest"
+    )?;
+    found.push(unread(alloc, name.as_str(), path, help)?)?;
     Ok(())
 }
 
@@ -151,21 +157,77 @@ pub fn add_at_top(
     Ok(())
 }
 
-/// Returns the diagnostic on a key of `target` in the dependency table of this name.
-fn among_packages(alloc: Global, name: &str, key: &str) -> Result<WrongPlace, AllocError> {
-    let path = path_of(alloc, &[name, key])?;
-    let key = shown_start(alloc, key)?;
-    let help = format!(in alloc; "did you mean `target.'{key}'.{name}`?")?;
-    Ok(WrongPlace {
-        lint: Lint::Misplaced,
-        level: Level::Error,
-        subject: format!(in alloc; "{name}.'{key}'")?,
-        key: None,
-        site: Site::Named(path),
-        message: String::from_str(alloc, "Cargo rejects this package name")?,
-        children: Children::of_help(alloc, help)?,
-        suggestion: None,
-    })
+/// A dependency table in which a key of `target` may be defined.
+#[derive(Clone, Copy, Drop)]
+struct PackageTable<'a> {
+    /// The name of the table in `workspace`, or at the top level of the manifest.
+    name: &'static str,
+    is_of_workspace: bool,
+    table: &'a Table,
+}
+
+impl<'a> PackageTable<'a> {
+    /// Returns the table as its header spells it.
+    fn shown(&self, alloc: Global) -> Result<String, AllocError> {
+        let name = self.name;
+        if self.is_of_workspace {
+            return format!(in alloc; "workspace.{name}");
+        }
+        String::from_str(alloc, name)
+    }
+
+    /// Returns the help to write a key of `target` in its place. `workspace.dependencies` is for all packages of the
+    /// workspace, and each of them has its own keys.
+    fn help_for(&self, alloc: Global, key: &str) -> Result<String, AllocError> {
+        let key = shown_start(alloc, key)?;
+        let name = self.name;
+        if self.is_of_workspace {
+            return format!(in alloc; "write `target.'{key}'.{name}` in the manifests of packages");
+        }
+        format!(in alloc; "did you mean `target.'{key}'.{name}`?")
+    }
+
+    /// Returns the diagnostic on one of its members, which is the key of `target`, or a table `target` that contains it.
+    fn diagnostic(
+        &self,
+        alloc: Global,
+        member: &str,
+        key: &str,
+        level: Level,
+    ) -> Result<WrongPlace, AllocError> {
+        let table = self.shown(alloc)?;
+        let shown = shown_start(alloc, member)?;
+        let (subject, message) = if member == TARGET {
+            let message = "Cargo takes `target` for the name of a package";
+            (format!(in alloc; "{table}.{shown}")?, message)
+        } else {
+            let message = "Cargo rejects this package name";
+            (format!(in alloc; "{table}.'{shown}'")?, message)
+        };
+        Ok(WrongPlace {
+            lint: Lint::Misplaced,
+            level,
+            subject,
+            key: None,
+            site: Site::Named(path_of_member(alloc, self.name, member, self.is_of_workspace)?),
+            message: String::from_str(alloc, message)?,
+            children: Children::of_help(alloc, self.help_for(alloc, key)?)?,
+            suggestion: None,
+        })
+    }
+}
+
+/// Returns the path of a member of the dependency table of this name, at the top level or in `workspace`.
+fn path_of_member(
+    alloc: Global,
+    name: &str,
+    member: &str,
+    is_of_workspace: bool,
+) -> Result<String, AllocError> {
+    if is_of_workspace {
+        return path_of(alloc, &["workspace", name, member]);
+    }
+    path_of(alloc, &[name, member])
 }
 
 /// Returns whether the table of a dependency says where its package comes from.
@@ -178,58 +240,81 @@ fn has_source(dependency: &Table) -> bool {
     false
 }
 
-/// Adds the diagnostic on a table `target` with keys in the dependency table of this name. Cargo takes it for a
-/// package.
+/// Returns the level of the diagnostic on a table `target` that Cargo takes for a package. Cargo rejects a package
+/// without a source, but in `workspace.dependencies` only if a member inherits it.
+fn level_of_package(within: &PackageTable<'_>, package: &Table) -> Level {
+    if within.is_of_workspace || has_source(package) {
+        Level::Warning
+    } else {
+        Level::Error
+    }
+}
+
+/// Adds the diagnostic on a table `target` with keys in a dependency table. Cargo takes it for a package.
 fn add_as_package(
     alloc: Global,
-    name: &str,
+    within: &PackageTable<'_>,
     package: &Table,
     found: &mut Vec<WrongPlace>,
 ) -> Result<(), AllocError> {
     for (key, _) in package.iter() {
         if is_key(key.as_str()) {
-            let key = shown_start(alloc, key.as_str())?;
-            let help = format!(in alloc; "did you mean `target.'{key}'.{name}`?")?;
-            found.push(WrongPlace {
-                lint: Lint::Misplaced,
-                level: if has_source(package) {
-                    Level::Warning
-                } else {
-                    Level::Error
-                },
-                subject: format!(in alloc; "{name}.target")?,
-                key: None,
-                site: Site::Named(path_of(alloc, &[name, "target"])?),
-                message: String::from_str(alloc, "Cargo takes `target` for the name of a package")?,
-                children: Children::of_help(alloc, help)?,
-                suggestion: None,
-            })?;
+            let level = level_of_package(within, package);
+            found.push(within.diagnostic(alloc, TARGET, key.as_str(), level)?)?;
             return Ok(());
         }
     }
     Ok(())
 }
 
-/// Adds the diagnostics on keys of `target` in dependency tables, where Cargo takes them for names of packages.
+/// Adds the diagnostics on keys of `target` in a dependency table, where Cargo takes them for names of packages.
+fn add_in_table(
+    alloc: Global,
+    within: &PackageTable<'_>,
+    found: &mut Vec<WrongPlace>,
+) -> Result<(), AllocError> {
+    for (key, _) in within.table.iter() {
+        let key = key.as_str();
+        if key.starts_with("cfg(") {
+            found.push(within.diagnostic(alloc, key, key, Level::Error)?)?;
+        }
+    }
+    match within.table.get(TARGET) {
+        Some(Value::Table(package)) => add_as_package(alloc, within, package, found),
+        _ => Ok(()),
+    }
+}
+
+/// Adds the diagnostics on keys of `target` in the dependency tables of the package and of the workspace.
 fn add_among_packages(
     alloc: Global,
     manifest: &Table,
     found: &mut Vec<WrongPlace>,
 ) -> Result<(), AllocError> {
     for name in TABLES {
-        let Some(Value::Table(table)) = manifest.get(name) else {
-            continue;
-        };
-        for (key, _) in table.iter() {
-            if key.as_str().starts_with("cfg(") {
-                found.push(among_packages(alloc, name, key.as_str())?)?;
-            }
-        }
-        if let Some(Value::Table(package)) = table.get("target") {
-            add_as_package(alloc, name, package, found)?;
+        if let Some(Value::Table(table)) = manifest.get(name) {
+            let within = PackageTable {
+                name,
+                is_of_workspace: false,
+                table,
+            };
+            add_in_table(alloc, &within, found)?;
         }
     }
-    Ok(())
+    let Some(Value::Table(workspace)) = manifest.get("workspace") else {
+        return Ok(());
+    };
+    match workspace.get("dependencies") {
+        Some(Value::Table(table)) => {
+            let within = PackageTable {
+                name: "dependencies",
+                is_of_workspace: true,
+                table,
+            };
+            add_in_table(alloc, &within, found)
+        }
+        _ => Ok(()),
+    }
 }
 
 /// Returns whether the package declares the edition 2024.

@@ -9,7 +9,7 @@ use std::alloc::{AllocError, Global};
 enum Piece<'a> {
     /// A name, which may contain dashes and a raw mark.
     Word(&'a str),
-    /// The text between two double quotes or two single quotes.
+    /// The text between two quotes.
     Text(&'a str),
     /// `=`, `==` or `:`.
     Equals,
@@ -19,9 +19,23 @@ enum Piece<'a> {
     Other,
 }
 
+/// Returns the quote that ends a text which begins with this one, or `None` if the character is no quote. Word
+/// processors write other quotes than Cargo reads.
+fn closing_quote(first: char) -> Option<char> {
+    match first {
+        '"' | '\'' | '”' | '’' => Some(first),
+        '“' => Some('”'),
+        '‘' => Some('’'),
+        '„' => Some('“'),
+        _ => None,
+    }
+}
+
 /// Returns whether a name may contain the character.
 fn is_in_word(c: char) -> bool {
-    c.is_ascii_alphanumeric() || matches!(c, '_' | '-' | '#' | '.') || !c.is_ascii()
+    c.is_ascii_alphanumeric()
+        || matches!(c, '_' | '-' | '#' | '.')
+        || !c.is_ascii() && closing_quote(c).is_none()
 }
 
 /// Returns the number of bytes before the first character that a name cannot contain.
@@ -45,8 +59,10 @@ fn text_at_front(rest: &str, quote: char) -> (Piece<'_>, &str) {
 /// Returns the piece that begins with the character `first`, and the rest after it. `text` begins with `first`, and
 /// `rest` is the text after it.
 fn piece_at_front<'a>(text: &'a str, first: char, rest: &'a str) -> (Piece<'a>, &'a str) {
+    if let Some(quote) = closing_quote(first) {
+        return text_at_front(rest, quote);
+    }
     match first {
-        '"' | '\'' => text_at_front(rest, first),
         '=' => (Piece::Equals, rest.strip_prefix("=").unwrap_or(rest)),
         ':' => (Piece::Equals, rest),
         '(' | ')' | '[' | ']' | ',' => (Piece::Mark(first), rest),
@@ -105,13 +121,16 @@ fn group_word(word: &str) -> Option<&'static str> {
     None
 }
 
+/// Returns whether a word is `cfg` in any case.
+fn is_cfg(word: &str) -> bool {
+    word.eq_ignore_ascii_case("cfg")
+}
+
 /// Returns whether a word joins conditions in other languages, or opens a group.
 fn is_join(word: &str) -> bool {
     group_word(word).is_some()
-        || matches!(
-            word,
-            "or" | "OR" | "and" | "AND" | "in" | "is" | "if" | "cfg"
-        )
+        || is_cfg(word)
+        || matches!(word, "or" | "OR" | "and" | "AND" | "in" | "is" | "if")
 }
 
 impl<'a> Repair<'a> {
@@ -211,7 +230,7 @@ impl<'a> Repair<'a> {
     /// Opens the group of this word, `cfg` among them, whose parentheses are left out. Returns the index `next` after
     /// the parenthesis, or `None` if the word is that of no group.
     fn add_group(&mut self, word: &str, next: usize) -> Result<Option<usize>, AllocError> {
-        if word == "cfg" {
+        if is_cfg(word) {
             self.open(false)?;
             return Ok(Some(next));
         }
@@ -272,10 +291,18 @@ impl<'a> Repair<'a> {
     }
 }
 
-/// Returns a key without spaces around it, and without the words of an attribute or a macro.
+/// Returns a text without the double quotes around it, if there are any.
+fn without_quotes(text: &str) -> &str {
+    match text.strip_prefix("\"") {
+        Some(inside) => inside.strip_suffix("\"").unwrap_or(text),
+        None => text,
+    }
+}
+
+/// Returns a key without spaces and quotes around it, and without the words of an attribute or a macro.
 fn without_marks(key: &str) -> &str {
-    let text = key.trim();
-    for mark in ["#![", "#["] {
+    let text = without_quotes(key.trim());
+    for mark in ["#![", "#[", "["] {
         if let Some(inside) = text.strip_prefix(mark) {
             return inside.strip_suffix("]").unwrap_or(inside);
         }
@@ -313,10 +340,10 @@ fn repaired_of(alloc: Global, pieces: Vec<Piece<'_>>) -> Result<Option<String>, 
 
 /// Returns the key that may be meant by a rejected one. It may be rejected too. Fails if memory is refused.
 ///
-/// These rules correct a mistake each: spaces around the key, `#[cfg(..)]`, and `cfg!(..)` are left out; `cfg(..)` is
-/// around the whole key, and nowhere else; parentheses at the end, and commas, are added or left out; lists of values
-/// become `any(..)`; values are in double quotes; `=` is in place of `:` and `==`; names have underscores; and `all`,
-/// `any` and `not` are in lower case.
+/// These rules correct a mistake each: spaces, double quotes and brackets around the key, `#[cfg(..)]`, and `cfg!(..)`
+/// are left out; `cfg(..)` is around the whole key, and nowhere else; parentheses at the end, and commas, are added or
+/// left out; lists of values become `any(..)`; values are in double quotes; `=` is in place of `:` and `==`; names have
+/// underscores; and `cfg`, `all`, `any` and `not` are in lower case.
 pub fn repaired_key(alloc: Global, key: &str) -> Result<Option<String>, AllocError> {
     let text = without_marks(key);
     if KnownTarget::by_name(text).is_some() {

@@ -70,7 +70,9 @@ pub fn instead_of(
         }
         (Standing::OtherWord, Cfg::Name(name)) => by_other_word(alloc, name.as_str()),
         (Standing::Near(word), Cfg::Name(_)) => Ok(Some(String::from_str(alloc, word)?)),
-        (Standing::Near(word), Cfg::KeyPair(_, value)) => with_value(alloc, word, value.as_str()),
+        (Standing::Near(word), Cfg::KeyPair(_, value)) => {
+            near_fact(alloc, words, word, value.as_str())
+        }
         _ => Ok(None),
     }
 }
@@ -194,6 +196,24 @@ fn fact_instead_of(
         Some(other) => with_value(alloc, key, other),
         None => Ok(None),
     }
+}
+
+/// Returns the pair of a key, which is one edit away from the one that is written, with a value, or with the one that is
+/// meant.
+fn near_fact(
+    alloc: Global,
+    words: &Words,
+    key: &str,
+    value: &str,
+) -> Result<Option<String>, AllocError> {
+    if is_value_of(alloc, key, value)? {
+        return with_value(alloc, key, value);
+    }
+    let found = fact_instead_of(alloc, words, key, value)?;
+    if found.is_some() {
+        return Ok(found);
+    }
+    with_value(alloc, key, value)
 }
 
 /// Returns the full key for a shortened one. `platform` stands for `target_os`.
