@@ -36,7 +36,7 @@ pub fn diagnostic_of_failure(
     })
 }
 
-/// Returns the diagnostic on a manifest that is not TOML. If the error is that the key `cfg(..)` has no quotes, the
+/// Returns the diagnostic on a manifest that is not TOML. If the quotes of a key `cfg(..)` are missing or end in it, the
 /// diagnostic suggests to quote it. Fails if memory is refused.
 pub fn diagnostic_of_syntax(alloc: Global, error: &SyntaxError) -> Result<Diagnostic, AllocError> {
     let message = error.message.clone()?;

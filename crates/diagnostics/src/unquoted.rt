@@ -1,4 +1,5 @@
-//! Conditions without quotes in a text that is for that reason not TOML, as in `[target.cfg(unix).dependencies]`.
+//! Conditions without quotes in a text that is for that reason not TOML, as in `[target.cfg(unix).dependencies]`, and
+//! those with quotes that end at a value, as in `[target."cfg(target_os = "linux")".dependencies]`.
 
 use crate::replacements::quoted_key;
 use cargo_platform::shown_start;
@@ -9,10 +10,16 @@ use toml_spans::Span;
 /// The name before the parenthesis.
 const CFG: &str = "cfg";
 
-/// A condition `cfg(..)` that is a key without quotes.
+/// The beginning of a condition.
+const CFG_OPENED: &str = "cfg(";
+
+/// A condition `cfg(..)` that is a key without quotes, or with quotes that end in it.
 #[derive(Clone, Copy, Drop)]
 pub struct Unquoted {
+    /// The place of the key, with its quotes if it has some.
     pub at: Location,
+    /// The bytes of the condition.
+    condition: Span,
 }
 
 /// Returns the number of bytes up to the parenthesis that closes the first one, if that is on the same line. A
@@ -62,32 +69,70 @@ fn header_end(text: &str) -> Option<&str> {
     line.get(..end.saturating_add(1))
 }
 
-impl Unquoted {
-    /// Returns the condition without quotes whose parenthesis is at the place of an error, if there is one.
-    pub fn at(text: &str, error: Location) -> Option<Unquoted> {
-        let parenthesis = error.span.start;
-        let before = text.get(..parenthesis)?.strip_suffix(CFG)?;
-        let behind = text.get(parenthesis..)?;
-        if !may_begin(before) || !behind.starts_with('(') {
-            return None;
-        }
-        let end = parenthesis.saturating_add(closed_length(behind)?);
-        let span = Span {
-            start: before.len(),
-            end,
-        };
-        Some(Unquoted {
-            at: Location {
-                span,
-                line: error.line,
-                column: error.column.saturating_sub(CFG.len()),
+/// Returns the condition without quotes whose parenthesis is at the place of an error, if there is one.
+fn without_quotes(text: &str, error: Location) -> Option<Unquoted> {
+    let parenthesis = error.span.start;
+    let before = text.get(..parenthesis)?.strip_suffix(CFG)?;
+    let behind = text.get(parenthesis..)?;
+    if !may_begin(before) || !behind.starts_with('(') {
+        return None;
+    }
+    let end = parenthesis.saturating_add(closed_length(behind)?);
+    let span = Span {
+        start: before.len(),
+        end,
+    };
+    Some(Unquoted {
+        at: Location {
+            span,
+            line: error.line,
+            column: error.column.saturating_sub(CFG.len()),
+        },
+        condition: span,
+    })
+}
+
+/// Returns the condition in double quotes in which the place of an error comes after the first double quote.
+fn with_quotes(text: &str, error: Location) -> Option<Unquoted> {
+    let before = text.get(..error.span.start)?;
+    let (before, begun) = before.strip_suffix("\"")?.rsplit_once('"')?;
+    if !may_begin(before) || !begun.starts_with(CFG_OPENED) || begun.contains('\n') {
+        return None;
+    }
+    let first = before.len();
+    let start = first.saturating_add(1);
+    let parenthesis = start.saturating_add(CFG.len());
+    let end = parenthesis.saturating_add(closed_length(text.get(parenthesis..)?)?);
+    if end <= error.span.start || !text.get(end..)?.starts_with('"') {
+        return None;
+    }
+    Some(Unquoted {
+        at: Location {
+            span: Span {
+                start: first,
+                end: end.saturating_add(1),
             },
-        })
+            line: error.line,
+            column: error
+                .column
+                .saturating_sub(begun.chars().count().saturating_add(2)),
+        },
+        condition: Span { start, end },
+    })
+}
+
+impl Unquoted {
+    /// Returns the condition because of whose quotes there is an error at a place, if there is one.
+    pub fn at(text: &str, error: Location) -> Option<Unquoted> {
+        match without_quotes(text, error) {
+            Some(found) => Some(found),
+            None => with_quotes(text, error),
+        }
     }
 
     /// Returns the condition. Fails if memory is refused.
     pub fn condition(&self, alloc: Global, text: &str) -> Result<String, AllocError> {
-        String::from_str(alloc, self.at.span.text_in(text).unwrap_or(""))
+        String::from_str(alloc, self.condition.text_in(text).unwrap_or(""))
     }
 
     /// Returns what to write in place of the condition: the whole header if it is in one, or else the quoted key.
