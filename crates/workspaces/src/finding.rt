@@ -23,7 +23,7 @@ pub struct ManifestSelection {
     pub manifests: Vec<String>,
     /// The only packages that are selected, if there are any: names or globs of names, each with or without a version.
     pub packages: Vec<String>,
-    /// The packages that are left out, and paths or globs of folders whose manifests are left out.
+    /// The packages that are left out, and paths or globs of manifests that are left out, or of folders above them.
     pub excluded: Vec<String>,
     /// True if all members of the workspace are selected, also by the manifest of a member.
     pub whole: bool,
@@ -176,6 +176,41 @@ fn first_of<R: Files + Env + AllocGlobal>(
     }
 }
 
+/// Returns whether two errors have the same reason, and are about the same file.
+fn is_same<R: Files + AllocGlobal>(
+    rt: &R,
+    first: &Unusable,
+    second: &Unusable,
+) -> Result<bool, AllocError> {
+    if first.reason.as_str() != second.reason.as_str() {
+        return Ok(false);
+    }
+    match (&first.file, &second.file) {
+        (Some(first), Some(second)) => {
+            let first = real_path(rt, first.as_str())?;
+            let second = real_path(rt, second.as_str())?;
+            Ok(first.as_str() == second.as_str())
+        }
+        (None, None) => Ok(true),
+        _ => Ok(false),
+    }
+}
+
+/// Adds an error, unless it is present: a root that is named in several ways has the same errors each time.
+fn add_error<R: Files + AllocGlobal>(
+    rt: &R,
+    error: Unusable,
+    found: &mut Found,
+) -> Result<(), AllocError> {
+    for other in &found.unusable {
+        if is_same(rt, other, &error)? {
+            return Ok(());
+        }
+    }
+    found.unusable.push(error)?;
+    Ok(())
+}
+
 /// Adds the manifests of a root's members, but not the root's own.
 fn add_members<R: Files + AllocGlobal + Clone + Drop>(
     rt: &R,
@@ -183,11 +218,15 @@ fn add_members<R: Files + AllocGlobal + Clone + Drop>(
     file: &str,
     found: &mut Found,
 ) -> Result<(), AllocError> {
-    for folder in &members_of(rt, documents, file, &mut found.unusable)? {
+    let mut errors = Vec::new(rt.alloc());
+    for folder in &members_of(rt, documents, file, &mut errors)? {
         if !folder.is_empty() {
             let member = manifest_inside(rt.alloc(), folder_of(file), folder.as_str())?;
             found.paths.push(member)?;
         }
+    }
+    for error in errors {
+        add_error(rt, error, found)?;
     }
     Ok(())
 }
