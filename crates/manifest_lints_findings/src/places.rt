@@ -187,7 +187,7 @@ impl<'a> PackageTable<'a> {
         format!(in alloc; "did you mean `target.'{key}'.{name}`?")
     }
 
-    /// Returns the diagnostic on one of its members, which is the key of `target`, or a table `target` that contains it.
+    /// Returns the diagnostic on one of its members: the key of `target`, or a table `target` that contains it.
     fn diagnostic(
         &self,
         alloc: Global,

@@ -198,8 +198,8 @@ fn fact_instead_of(
     }
 }
 
-/// Returns the pair of a key, which is one edit away from the one that is written, with a value, or with the one that is
-/// meant.
+/// Returns the pair of a key, which is one edit away from the one that is written, with a value, or with the value that
+/// is meant.
 fn near_fact(
     alloc: Global,
     words: &Words,
