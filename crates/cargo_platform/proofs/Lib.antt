@@ -123,6 +123,8 @@ pub mod Halving
 pub mod FactIndexes
 -- Holders: sets of user-defined holders
 pub mod Holders
+-- Evaluating: an expression that is evaluated while it is read
+pub mod Evaluating
 -- ---- values and warnings
 -- Texts: equality of texts beside their order
 pub mod Texts

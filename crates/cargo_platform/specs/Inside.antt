@@ -12,6 +12,8 @@ pub mod Ahead
 pub mod Refusals
 -- Parsing: what a reader takes and refuses
 pub mod Parsing
+-- Matching: what an expression that is evaluated while it is read has come to
+pub mod Matching
 -- ---- spans
 -- LineStarts: the rest of a text from a line on
 pub mod LineStarts

@@ -19,6 +19,7 @@ mod folding;
 mod in_key;
 mod json;
 pub mod laws;
+mod matching;
 mod order;
 mod parentheses;
 mod parser;
