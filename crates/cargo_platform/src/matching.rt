@@ -10,9 +10,12 @@ ghost use Rattle.std.specs.Ordering.{eq_by_cmp};
 ghost use Rattle.cargo_platform.specs.Tokens.{Ident as ident_token, RightParen};
 ghost use Rattle.cargo_platform.specs.Trees.{Tree, Not, Alone, KeyPair, value_of};
 ghost use Rattle.cargo_platform.specs.Key.{value_cmp};
-ghost use Rattle.cargo_platform.specs.Facts.{FactSet, fact_set};
+ghost use Rattle.cargo_platform.specs.Facts.{FactSet, fact_set, truth};
+ghost use Rattle.cargo_platform.specs.Faults.{IsRefused, IsRefusedAt};
+ghost use Rattle.cargo_platform.specs.Errors.{IfParse, orig_of, fault_in, span_in};
 ghost use Rattle.cargo_platform.specs.Holders.{name_fact, pair_fact};
-ghost use Rattle.cargo_platform.specs.Spelling.{Expressions, Grammar, Spells, is_group_word, is_literal_word};
+ghost use Rattle.cargo_platform.specs.Spelling.{Expressions, Grammar, Spells, IsTreeText, is_group_word};
+ghost use Rattle.cargo_platform.specs.Spelling.{is_literal_word};
 ghost use Rattle.cargo_platform.specs.Walk.{Opening, Negated, Listed as OpenList, list_tree, Position, WithWord, WithTree};
 ghost use Rattle.cargo_platform.specs.Walk.{kinds, start};
 ghost use Rattle.cargo_platform.specs.Inside.Ahead.{Ahead, bytes_left};
@@ -21,7 +24,8 @@ ghost use Rattle.cargo_platform.specs.Inside.Parsing.{IsClear, LacksPunctuation,
 ghost use Rattle.cargo_platform.specs.Inside.Matching.{fresh, IsIn, is_settled, IsAnswer, code_of, words, Hold};
 ghost use Rattle.cargo_platform.specs.Inside.Matching.{Wants, Ends, Named, Begins, Answers, GoesOn, literal, ReadsValue};
 
-use crate::cfg::{Cfg, Listed};
+use crate::cfg::{Cfg, CfgExpr, Listed};
+use crate::error::ReadError;
 use crate::parser::Listing;
 use crate::reader::{Punctuation, Reader, expect_end, refuse};
 use crate::refusal::Refusal;
@@ -507,5 +511,47 @@ pub(crate) fn evaluate<'a, F: TextFacts>(
                 return Ok(answer);
             }
         }
+    }
+}
+
+/// Returns whether the expression in a text is true over the facts.
+#[inline(always)]
+fn text_is_true<F: TextFacts>(alloc: Global, text: &str, facts: &F) -> Result<bool, ReadError>
+    ensures truth { IfOk result (λ answer. (e : Tree) × IsTreeText text.now e
+        × (answer ≡ truth (F.meant facts.now) e)) }
+    ensures orig { IfParse result (λ e. orig_of e ≡ text.now) }
+    ensures fault { IfParse result (λ e. IsRefused Expressions text.now (fault_in e)) }
+    ensures span { IfParse result (λ e. IsRefusedAt Expressions text.now (fault_in e) (span_in e)) }
+    ensures refused { IfParse result (λ _. (e : Tree) → IsTreeText text.now e → ⊥) }
+{
+    let mut reader = Reader::new(text);
+    match evaluate(alloc, &mut reader, facts) {
+        Ok(is_true) => Ok(is_true),
+        Err(refusal) => Err(refusal.into_error(alloc, text, &reader.spend())),
+    }
+}
+
+impl CfgExpr {
+    /// Returns whether the expression in a text is true over the facts in `cfg`, as `from_str` and `matches` do. The
+    /// expression is evaluated while it is parsed, and is not created.
+    ///
+    /// An expression takes memory only if its groups are nested more than 21 levels deep. Once a member decides a
+    /// group, no further member is looked up, but the text is parsed to its end.
+    ///
+    /// Returns `ReadError::Parse` for a text that `from_str` rejects, with the same error. Returns `ReadError::Memory`
+    /// if an allocation fails.
+    pub fn matches_str(alloc: Global, s: &str, cfg: &[Cfg]) -> Result<bool, ReadError>
+        // The answer is the truth of the expression that the text means.
+        ensures truth { IfOk result (λ answer. (e : Tree) × IsTreeText s.now e
+            × (answer ≡ truth (fact_set (map value_of cfg.now)) e)) }
+        // The error holds the text, and the fault and span that its fault prefix and what follows it determine.
+        ensures orig { IfParse result (λ e. orig_of e ≡ s.now) }
+        ensures fault { IfParse result (λ e. IsRefused Expressions s.now (fault_in e)) }
+        ensures span { IfParse result (λ e. IsRefusedAt Expressions s.now (fault_in e) (span_in e)) }
+        // `Parse` is returned only for a text without a meaning. So every text that has a meaning is evaluated if
+        // memory suffices.
+        ensures refused { IfParse result (λ _. (e : Tree) → IsTreeText s.now e → ⊥) }
+    {
+        text_is_true(alloc, s, &Listed(cfg))
     }
 }

@@ -1,6 +1,7 @@
 use Rattle.std.proofs.Common.{inr, Result, Ok, Err, sym, subst}
 use Rattle.cargo_platform.specs.declared.Platform.{Platform}
 use Rattle.cargo_platform.specs.declared.Platform.TheVariants as platform
+use Rattle.cargo_platform.specs.declared.cfg.CfgExpr.{CfgExpr}
 use Rattle.cargo_platform.specs.declared.error.ReadError.{ReadError}
 use Rattle.cargo_platform.specs.declared.error.ReadError.TheVariants as errors
 use Rattle.cargo_platform.specs.Trees.{condition_of}
@@ -30,14 +31,14 @@ returns-in-Ok c =
 pub returns-in-Err : goal.returns-in-Err
 returns-in-Err c =
     let answer : Result Platform ReadError = Err c.in-Err.error in
-    let fault = expression_fault c.args.s.now c.in-Some.inner.now c.in-Err.error c.in-Some.ensures c.in-Err.ensures.orig
+    let fault = expression_fault CfgExpr Platform c.args.s.now c.in-Some.inner.now c.in-Err.error c.in-Some.ensures c.in-Err.ensures.orig
     c.in-Err.ensures.fault in
     let none = refused_answer condition_laws {B = Platform} c.args.s.now answer fault in
     record {
       condition = tt;
       fault = fault;
       span =
-          expression_span c.args.s.now c.in-Some.inner.now c.in-Err.error c.in-Some.ensures c.in-Err.ensures.orig
+          expression_span CfgExpr Platform c.args.s.now c.in-Some.inner.now c.in-Err.error c.in-Some.ensures c.in-Err.ensures.orig
           c.in-Err.ensures.span;
       well_formed = tt;
       refused = none;
