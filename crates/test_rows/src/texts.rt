@@ -14,7 +14,8 @@ pub fn platform(alloc: Global, text: &str) -> Result<Platform, Fault> {
     known(Platform::from_str(alloc, text))
 }
 
-fn known<T: Drop>(read: Result<T, ReadError>) -> Result<T, Fault> {
+/// Returns what was read from a text that is known to be accepted.
+pub fn known<T: Drop>(read: Result<T, ReadError>) -> Result<T, Fault> {
     match read {
         Ok(value) => Ok(value),
         Err(ReadError::Parse(_)) => Err(Fault::Row("the text is refused")),

@@ -1,10 +1,11 @@
 //! Truth values over facts, by each kind of holder, and the numbers of queries.
 
 use crate::asked;
-use cargo_platform::{Cfg, CfgExpr, FactIndex, Facts, Listed};
+use cargo_platform::{Cfg, CfgExpr, FactIndex, Facts, Listed, Platform};
 use std::alloc::Global;
 use test_rows::fields::Fields;
 use test_rows::forms::{word, yes};
+use test_rows::texts::{known, platform, spelled};
 use test_rows::{Fault, made_facts};
 
 /// Returns the answer to a row whose words are `fields`. `call` is the part of its kind after the dot.
@@ -33,11 +34,15 @@ fn has_fact<F: Facts>(facts: &F, fact: &Cfg) -> bool {
     facts.holds(fact)
 }
 
-/// Returns whether an expression is true over facts, if all holders agree.
+/// Returns whether an expression is true over facts, if all holders and its text agree.
 fn over_each(alloc: Global, fields: &mut Fields<'_>) -> Result<String, Fault> {
-    let e = asked::expression(alloc, fields)?;
+    let text = fields.text(alloc)?;
+    let e = spelled(alloc, &text)?;
     let facts = made_facts::values(alloc, fields)?;
     let answer = e.matches(&facts);
+    if known(CfgExpr::matches_str(alloc, &text, &facts))? != answer {
+        return Ok(word(alloc, "the text is evaluated otherwise")?);
+    }
     let index = FactIndex::new(alloc, &facts)?;
     agreed(alloc, answer, is_same(&e, &facts, &index, answer))
 }
@@ -80,10 +85,14 @@ fn told(alloc: Global, answer: bool, count: u128) -> Result<String, Fault> {
 
 /// Returns whether a condition selects a target, and the number of queries of its facts.
 fn at_target(alloc: Global, fields: &mut Fields<'_>) -> Result<String, Fault> {
-    let p = asked::key(alloc, fields)?;
+    let text = fields.text(alloc)?;
+    let p = platform(alloc, &text)?;
     let name = fields.text(alloc)?;
     let facts = made_facts::values(alloc, fields)?;
     let (answer, asks) = p.matches_counted(&name, &Listed(&facts));
+    if known(Platform::matches_str(alloc, &text, &name, &facts))? != answer {
+        return Ok(word(alloc, "the text is evaluated otherwise")?);
+    }
     if answer != p.matches(&name, &facts) {
         return Ok(word(alloc, "counted otherwise than not")?);
     }

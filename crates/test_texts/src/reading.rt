@@ -8,7 +8,7 @@ use std::alloc::{AllocError, Global};
 use test_rows::bars::{add_text, barred};
 use test_rows::fields::Fields;
 use test_rows::forms::{self, add_error, add_other, add_printed, add_span, refused, tree, word};
-use test_rows::texts::{platform, spelled};
+use test_rows::texts::{known, platform, spelled};
 use test_rows::{Fault, trees};
 
 /// The maximum number of character reads for each character of a text, and for its end. `.ci/second-reader` takes the
@@ -40,12 +40,57 @@ fn of_text(alloc: Global, call: &str, text: &str) -> Result<String, Fault> {
 }
 
 /// Returns the tree of an expression, and what it prints if that is not the text. What it prints and its copy have to
-/// have the same tree.
+/// have the same tree. The text has to be evaluated as the expression is, or rejected with the same error.
 fn expression(alloc: Global, text: &str) -> Result<String, Fault> {
     match CfgExpr::from_str(alloc, text) {
         Ok(e) => read_expression(alloc, &e, text),
-        Err(refusal) => refused(alloc, &refusal, text),
+        Err(refusal) => {
+            let out = refused(alloc, &refusal, text)?;
+            refused_again(
+                alloc,
+                out,
+                &refusal,
+                CfgExpr::matches_str(alloc, text, &[]),
+                text,
+            )
+        }
     }
+}
+
+/// Appends how a rejected text is evaluated, if it is, and with which error it is rejected then, if not with the same.
+fn refused_again(
+    alloc: Global,
+    mut out: String,
+    refusal: &ReadError,
+    evaluated: Result<bool, ReadError>,
+    text: &str,
+) -> Result<String, Fault> {
+    match evaluated {
+        Ok(_) => out.push_str(", but is evaluated")?,
+        Err(other) => {
+            let again = refused(alloc, &other, text)?;
+            add_other(
+                &mut out,
+                ", but evaluating is ",
+                &again,
+                &refused(alloc, refusal, text)?,
+            )?;
+        }
+    }
+    Ok(out)
+}
+
+/// The facts over which each accepted text is evaluated: none, and the name `a`.
+fn some_facts(alloc: Global) -> Result<[Cfg; 1], Fault> {
+    Ok([known(Cfg::from_str(alloc, "a"))?])
+}
+
+/// Appends that a text is evaluated otherwise than what was read from it, if it is.
+fn add_evaluated(out: &mut String, is_same: bool) -> Result<(), AllocError> {
+    if is_same {
+        return Ok(());
+    }
+    out.push_str(", but its text is evaluated otherwise")
 }
 
 fn read_expression(alloc: Global, e: &CfgExpr, text: &str) -> Result<String, Fault> {
@@ -53,6 +98,10 @@ fn read_expression(alloc: Global, e: &CfgExpr, text: &str) -> Result<String, Fau
     let mut out = word(alloc, &form)?;
     add_again(alloc, &mut out, e, text, &form)?;
     add_copy(alloc, &mut out, e, &form)?;
+    let facts = some_facts(alloc)?;
+    let none = known(CfgExpr::matches_str(alloc, text, &[]))? == e.matches(&[]);
+    let some = known(CfgExpr::matches_str(alloc, text, &facts))? == e.matches(&facts);
+    add_evaluated(&mut out, none && some)?;
     Ok(out)
 }
 
@@ -93,16 +142,29 @@ fn fact(alloc: Global, text: &str) -> Result<String, Fault> {
 /// returns the span of the error in the key.
 fn key(alloc: Global, text: &str) -> Result<String, Fault> {
     match Platform::from_str(alloc, text) {
-        Ok(p) => Ok(read_key(alloc, &p, text)?),
-        Err(refusal) => refused_key(alloc, &refusal, text),
+        Ok(p) => read_key(alloc, &p, text),
+        Err(refusal) => {
+            let out = refused_key(alloc, &refusal, text)?;
+            refused_again(
+                alloc,
+                out,
+                &refusal,
+                Platform::matches_str(alloc, text, "a", &[]),
+                text,
+            )
+        }
     }
 }
 
-fn read_key(alloc: Global, p: &Platform, text: &str) -> Result<String, AllocError> {
+fn read_key(alloc: Global, p: &Platform, text: &str) -> Result<String, Fault> {
     let mut out = forms::platform(alloc, p, text)?;
     let copy = forms::platform(alloc, &p.clone(alloc)?, text)?;
     let form = forms::platform(alloc, p, text)?;
     add_other(&mut out, ", but copies as ", &copy, &form)?;
+    let facts = some_facts(alloc)?;
+    let none = known(Platform::matches_str(alloc, text, "b", &[]))? == p.matches("b", &[]);
+    let some = known(Platform::matches_str(alloc, text, "a", &facts))? == p.matches("a", &facts);
+    add_evaluated(&mut out, none && some)?;
     Ok(out)
 }
 

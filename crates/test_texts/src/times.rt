@@ -24,6 +24,7 @@ fn once(alloc: Global, call: &str, text: &str) -> Result<bool, Fault> {
         "fact" => was_read(Cfg::from_str(alloc, text)),
         "key" => was_read(Platform::from_str(alloc, text)),
         "facts" => were_read(alloc, text),
+        "matches" => was_read(Platform::matches_str(alloc, text, "a", &[])),
         _ => Err(Fault::Row("there is no such kind")),
     }
 }
