@@ -87,38 +87,38 @@ impl Platform {
         }
     }
 
-    /// Returns whether the condition in a text is true for a target with this name and these facts, as `from_str` and
+    /// Returns whether the condition of a key is true for a target with this name and these facts, as `from_str` and
     /// `matches` do. The condition is evaluated while it is parsed, and is not created. An expression takes memory as
     /// `CfgExpr::matches_str` says, and the name of a target takes none.
     ///
-    /// Returns `ReadError::Parse` for a text that `from_str` rejects, with the same error. Returns `ReadError::Memory`
+    /// Returns `ReadError::Parse` for a key that `from_str` rejects, with the same error. Returns `ReadError::Memory`
     /// if an allocation fails.
-    pub fn matches_str(alloc: Global, s: &str, name: &str, cfg: &[Cfg]) -> Result<bool, ReadError>
-        // The answer is the truth of the condition that the text means.
-        ensures truth { IfOk result (λ answer. (c : Condition) × IsConditionText s.now c
+    pub fn matches_str(alloc: Global, key: &str, name: &str, cfg: &[Cfg]) -> Result<bool, ReadError>
+        // The answer is the truth of the condition that the key means.
+        ensures truth { IfOk result (λ answer. (c : Condition) × IsConditionText key.now c
             × (answer ≡ truth_of_condition name.now (fact_set (map value_of cfg.now)) c)) }
         // The error is that of the text between `cfg(` and `)`, or else that of the whole key.
-        ensures fault { IfParse result (λ e. IsRefusedCondition s.now (orig_of e) (fault_in e)) }
-        ensures span { IfParse result (λ e. IsRefusedConditionAt s.now (orig_of e) (fault_in e) (span_in e)) }
+        ensures fault { IfParse result (λ e. IsRefusedCondition key.now (orig_of e) (fault_in e)) }
+        ensures span { IfParse result (λ e. IsRefusedConditionAt key.now (orig_of e) (fault_in e) (span_in e)) }
         // `Parse` is returned only for a text without a meaning. So every text that has a meaning is evaluated if
         // memory suffices.
-        ensures refused { IfParse result (λ _. (c : Condition) → IsConditionText s.now c → ⊥) }
+        ensures refused { IfParse result (λ _. (c : Condition) → IsConditionText key.now c → ⊥) }
     {
-        if !is_plain(s) {
-            if let Some(inner) = inside_cfg(s) {
+        if !is_plain(key) {
+            if let Some(inner) = inside_cfg(key) {
                 return match CfgExpr::matches_str(alloc, inner, cfg) {
                     Ok(is_true) => Ok(is_true),
                     Err(error) => Err(error),
                 };
             }
-            if let Some(refused) = first_refused(s) {
-                return match target_error(alloc, s, refused) {
+            if let Some(refused) = first_refused(key) {
+                return match target_error(alloc, key, refused) {
                     Ok(error) => Err(ReadError::Parse(error)),
                     Err(error) => Err(ReadError::Memory(error)),
                 };
             }
         }
-        Ok(s == name)
+        Ok(key == name)
     }
 
     /// Returns whether the condition is true for a target with this name and the facts of the holder, as `matches`

@@ -24,22 +24,22 @@ returns-in-Ok c =
 pub returns-in-Err : goal.returns-in-Err
 returns-in-Err c =
     let answer : Result Bool ReadError = Err c.in-Err.error in
-    let fault = expression_fault Bool Bool c.args.s.now c.in-Some.inner.now c.in-Err.error c.in-Some.ensures
+    let fault = expression_fault Bool Bool c.args.key.now c.in-Some.inner.now c.in-Err.error c.in-Some.ensures
     c.in-Err.ensures.orig c.in-Err.ensures.fault in
     record {
       truth = tt;
       fault = fault;
       span =
-          expression_span Bool Bool c.args.s.now c.in-Some.inner.now c.in-Err.error c.in-Some.ensures
+          expression_span Bool Bool c.args.key.now c.in-Some.inner.now c.in-Err.error c.in-Some.ensures
           c.in-Err.ensures.orig c.in-Err.ensures.span;
-      refused = refused_answer condition_laws {B = Bool} c.args.s.now answer fault;
+      refused = refused_answer condition_laws {B = Bool} c.args.key.now answer fault;
     }
 
 pub returns-in-Ok-target_error : goal.returns-in-Ok-target_error
 returns-in-Ok-target_error c =
     let answer : Result Bool ReadError = Err (errors.Parse c.in-Ok-target_error.error) in
     let e = c.in-Ok-target_error.error in
-    let fault : IsRefusedCondition c.args.s.now (orig_of e) (fault_in e) =
+    let fault : IsRefusedCondition c.args.key.now (orig_of e) (fault_in e) =
     inr (c.in_default.ensures, c.in-Ok-target_error.ensures.of, c.in-Ok-target_error.ensures.why) in
     record {
       truth = tt;
@@ -51,13 +51,13 @@ returns-in-Ok-target_error c =
             c.in-Ok-target_error.ensures.why,
             c.in-Ok-target_error.ensures.place,
           );
-      refused = refused_answer condition_laws {B = Bool} c.args.s.now answer fault;
+      refused = refused_answer condition_laws {B = Bool} c.args.key.now answer fault;
     }
 
 pub returns-clause-truth : goal.returns-clause-truth
 returns-clause-truth c =
-    let name : IsTargetName c.args.s.now = elim c.if-not-is_plain.branch [
+    let name : IsTargetName c.args.key.now = elim c.if-not-is_plain.branch [
       | then-not-is_plain+in_default+in_default-first_refused w ↦ w.in_default-first_refused.ensures
       | else-not-is_plain w ↦ c.is_plain.ensures w.if-not-is_plain.false
     ] in
-    (Target c.args.s.now, (refl, name_is_bare c.args.s.now name, name), c.eq.ensures)
+    (Target c.args.key.now, (refl, name_is_bare c.args.key.now name, name), c.eq.ensures)
