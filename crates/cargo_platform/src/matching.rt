@@ -3,7 +3,7 @@
 //! Each open group needs three bits, so that groups nested up to 21 levels deep need no memory.
 
 ghost use Rattle.std.specs.Prelude.{◌≡◌, ◌≤◌, ◌<◌, List, [], ◌∷◌, ◌++◌, Bool, map, IfOk, IfErr, IfSome, OnOk, MatchOption};
-ghost use Rattle.std.specs.Prelude.{◌%◌, IfNone, false, true, IsTrue, IsFalse};
+ghost use Rattle.std.specs.Prelude.{◌%◌, IfNone, false, true, IsFalse};
 ghost use Rattle.std.specs.List.{list_any};
 ghost use Rattle.std.specs.FinSet.{contains};
 ghost use Rattle.std.specs.Ordering.{eq_by_cmp};

@@ -9,9 +9,9 @@ use Rattle.cargo_platform.specs.Trees.{CfgValue, Tree, Value, True, False, trees
 use Rattle.cargo_platform.specs.Spelling.{Grammar, Expressions}
 use Rattle.cargo_platform.specs.Cut.{Nothing}
 use Rattle.cargo_platform.specs.Facts.{FactSet, pair_of, truth, all_true, any_true}
-use Rattle.cargo_platform.specs.Walk.{Opening, Negated, Listed, Position, Wanting, WithWord, WithTree}
+use Rattle.cargo_platform.specs.Walk.{Opening, Negated, Listed, Position, Wanting, WithTree}
 use Rattle.cargo_platform.specs.Inside.Ahead.{Ahead, NextIs}
-use Rattle.cargo_platform.specs.Inside.Parsing.{is_all, at_name, at_lone_name, Reads, IsClear}
+use Rattle.cargo_platform.specs.Inside.Parsing.{is_all, at_lone_name, Reads, IsClear}
 
 -- ---- open groups
 

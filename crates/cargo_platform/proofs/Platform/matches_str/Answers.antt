@@ -1,4 +1,4 @@
-use Rattle.std.proofs.Common.{refl, inr, Result, Ok, Err, Bool}
+use Rattle.std.proofs.Common.{refl, inr, Result, Err, Bool}
 use Rattle.cargo_platform.specs.declared.error.ReadError.{ReadError}
 use Rattle.cargo_platform.specs.declared.error.ReadError.TheVariants as errors
 use Rattle.cargo_platform.specs.Trees.{Target, Expression}

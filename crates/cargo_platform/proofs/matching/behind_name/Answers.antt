@@ -1,4 +1,4 @@
-use Rattle.std.proofs.Common.{◌≡◌, ◌∙◌, ap, not}
+use Rattle.std.proofs.Common.{◌∙◌, ap, not}
 use Rattle.cargo_platform.specs.Trees.{Value}
 use Rattle.cargo_platform.specs.Spelling.{Expressions}
 use Rattle.cargo_platform.specs.Walk.{WithTree}

@@ -1,4 +1,4 @@
-use Rattle.std.proofs.Common.{◌≡◌, refl, ap, subst, List, [], Bool, Option, arith}
+use Rattle.std.proofs.Common.{ap, subst, List, [], Bool, Option, arith}
 use Rattle.std.proofs.lemmas.Result.{err_from_is_err_and}
 use Rattle.cargo_platform.specs.Spelling.{Expressions}
 use Rattle.cargo_platform.specs.Walk.{Opening, WithTree}

@@ -1,4 +1,4 @@
-use Rattle.std.proofs.Common.{◌≡◌, refl, sym, ap, ◌∙◌, Bool, true, false, ◌∷◌, reverse, arith, true≢false}
+use Rattle.std.proofs.Common.{◌≡◌, refl, sym, ap, ◌∙◌, true, false, ◌∷◌, reverse, arith, true≢false}
 use Rattle.cargo_platform.specs.Walk.{Listed}
 use Rattle.cargo_platform.specs.Inside.Parsing.{is_all}
 use Rattle.cargo_platform.specs.Inside.Matching.{words, is_settled}

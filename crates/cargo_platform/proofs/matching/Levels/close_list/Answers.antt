@@ -1,4 +1,4 @@
-use Rattle.std.proofs.Common.{◌≡◌, sym, ap, ◌∙◌, not, ◌∷◌}
+use Rattle.std.proofs.Common.{sym, ap, ◌∙◌, not, ◌∷◌}
 use Rattle.cargo_platform.specs.Walk.{Listed}
 use Rattle.cargo_platform.specs.Inside.Parsing.{is_all}
 use Rattle.cargo_platform.specs.Inside.Matching.{is_settled}
