@@ -115,8 +115,12 @@ pub mod LineStarts
 pub mod FactLines
 -- FoundInFacts: the span of a refused line is in the text
 pub mod FoundInFacts
--- LengthOrder: the order of an index is total
-pub mod LengthOrder
+-- NameLengths: names of unequal lengths are unequal
+pub mod NameLengths
+-- TextPlaces: texts keep their places when others are appended
+pub mod TextPlaces
+-- HashOrder: the orders of an index are total, and tie where facts are equal
+pub mod HashOrder
 -- Halving: a search goes on in one half
 pub mod Halving
 -- FactIndexes: an index represents the set of its list

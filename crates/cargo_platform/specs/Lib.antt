@@ -83,8 +83,8 @@ pub mod OrderLaws
 -- Hashing: the input of a hasher
 pub mod Hashing
 -- ---- an index of facts
--- LengthOrder: the order in which an index keeps facts
-pub mod LengthOrder
+-- Places: texts in one string, their places there, and the order in which an index keeps them
+pub mod Places
 -- FactIndexes: the facts that an index keeps
 pub mod FactIndexes
 -- ---- warnings

@@ -1,15 +1,16 @@
 //! Facts, and the truth of an expression over them.
 
-ghost use Rattle.std.specs.Prelude.{◌≡◌, ◌≤◌, ◌-◌, ◌^◌, min, map, length, IfOk};
+ghost use Rattle.std.specs.Prelude.{◌≡◌, ◌≤◌, ◌-◌, ◌^◌, min, map, length, IfOk, IsTrue, string_bytes};
 ghost use Rattle.std.specs.ControlFlow.{MatchControlFlow, ForContinue};
 ghost use Rattle.std.proofs.Props.{props};
-ghost use Rattle.std.specs.List.{list_any};
+ghost use Rattle.std.specs.List.{All, list_any};
 ghost use Rattle.std.specs.List.Sorted.{IsSorted};
-ghost use Rattle.std.specs.Ordering.{eq_by_cmp, on};
+ghost use Rattle.std.specs.Ordering.{eq_by_cmp};
 ghost use Rattle.std.specs.FinSet.{contains};
 ghost use Rattle.cargo_platform.specs.Key.{value_cmp};
-ghost use Rattle.cargo_platform.specs.LengthOrder.{length_cmp, alone, key_value};
-ghost use Rattle.cargo_platform.specs.Trees.{KeyPair, name_of, value_of, tree_of, trees_of};
+ghost use Rattle.cargo_platform.specs.Places.{hashed_in, hashed_at, hashed_cmp, name_order, HasNameHash};
+ghost use Rattle.cargo_platform.specs.Places.{HashedPair, hashed_pair_at, hashed_pair_cmp, pair_order, HasValueHash};
+ghost use Rattle.cargo_platform.specs.Trees.{value_of, tree_of, trees_of};
 ghost use Rattle.cargo_platform.specs.Facts.{FactSet, pair_of, fact_set, truth, all_true, any_true};
 ghost use Rattle.cargo_platform.specs.Asks.{asks, asks_of_all, asks_of_any};
 ghost use Rattle.cargo_platform.specs.Inside.Asking.{Counts};
@@ -17,6 +18,7 @@ ghost use Rattle.cargo_platform.specs.ExpressionSizes.{node_count, node_counts};
 
 use crate::asking::{Asked, Asks, Tally, Uncounted};
 use crate::cfg::{Cfg, CfgExpr, Ident};
+use crate::places::{HashedPlace, HashedText, PairPlace};
 use crate::search::{Sorted, Sought};
 use std::alloc::{AllocError, Global};
 use std::cmp::Ordering;
@@ -60,7 +62,7 @@ fn is_listed(facts: &[Cfg], c: &Cfg) -> bool
 
 /// Returns whether two facts are equal. Mostly the lengths of their names or keys show that they differ.
 #[inline(always)]
-#[tactic(auto, using(crate::proofs::LengthOrder::unequal_names))]
+#[tactic(auto, using(crate::proofs::NameLengths::unequal_names))]
 fn is_same(fact: &Cfg, c: &Cfg) -> bool
     ensures { result ≡ eq_by_cmp value_cmp (value_of fact.now) (value_of c.now) }
 {
@@ -87,94 +89,54 @@ fn are_equal(fact: &Cfg, c: &Cfg) -> bool
     fact == c
 }
 
-/// Orders names by their lengths, which mostly differ, and then by their bytes.
-#[inline(always)]
-fn by_length(a: &Ident, b: &Ident) -> Ordering
-    ensures { result ≡ length_cmp (alone a.now) (alone b.now) }
-{
-    let length = a.name.len();
-    let other = b.name.len();
-    if length == other {
-        return a.cmp(b);
-    }
-    length.cmp(&other)
-}
-
-/// A fact that is a key and its value.
-#[derive(Drop)]
-struct KeyValue {
-    key: Ident,
-    value: String,
-}
-
-impl KeyValue {
-    /// Copies a key and its value. Fails only if an allocation fails.
-    #[inline(always)]
-    fn new(alloc: Global, key: &Ident, value: &str) -> Result<KeyValue, AllocError>
-        ensures { IfOk result (λ pair. key_value pair ≡ KeyPair (name_of key.now) value.now) }
-    {
-        Ok(KeyValue {
-            key: key.clone(alloc)?,
-            value: String::from_str(alloc, value)?,
-        })
-    }
-
-    /// Orders the pair and another one, whose key and value are given: by the lengths of the values, which mostly
-    /// differ, and then by keys and values.
-    #[inline(always)]
-    fn by_length(&self, key: &Ident, value: &str) -> Ordering
-        ensures { result ≡ length_cmp (key_value self.now) (KeyPair (name_of key.now) value.now) }
-    {
-        let length = self.value.len();
-        let other = value.len();
-        if length == other {
-            // Testing texts for equality is faster than ordering them.
-            if self.key == *key {
-                return self.value.as_str().cmp(value);
-            }
-            return self.key.cmp(key);
-        }
-        length.cmp(&other)
-    }
-}
-
-/// A name to search for.
+/// A name to search for, among places in `texts`.
 #[derive(Clone, Copy)]
-struct SoughtName<'a>(&'a Ident);
+struct SoughtName<'a> {
+    texts: &'a str,
+    name: HashedText<'a>,
+}
 
-impl<'a, T: Tally> Sought<Ident, T> for SoughtName<'a> {
-    ghost order = { λ sought name. length_cmp (alone name) (alone sought.0.now) };
+impl<'a, T: Tally> Sought<HashedPlace, T> for SoughtName<'a> {
+    ghost order = { λ sought place. hashed_cmp (hashed_at sought.texts.now place) (hashed_in sought.name) };
 
     #[inline(always)]
-    fn compare(&self, tally: &mut T, name: &Ident) -> Ordering {
+    fn compare(&self, tally: &mut T, place: &HashedPlace) -> Ordering {
         tally.add_one();
-        by_length(name, self.0)
+        place.compare_with(self.texts, self.name)
     }
 }
 
-/// A pair to search for.
+/// A pair to search for, among places in `texts`.
 #[derive(Clone, Copy)]
-struct SoughtPair<'a>(&'a Ident, &'a str);
+struct SoughtPair<'a> {
+    texts: &'a str,
+    key: &'a str,
+    value: HashedText<'a>,
+}
 
-impl<'a, T: Tally> Sought<KeyValue, T> for SoughtPair<'a> {
-    ghost order = { λ sought pair. length_cmp (key_value pair) (KeyPair (name_of sought.0.now) sought.1.now) };
+impl<'a, T: Tally> Sought<PairPlace, T> for SoughtPair<'a> {
+    ghost order = { λ sought place. hashed_pair_cmp (hashed_pair_at sought.texts.now place)
+        (record { key = sought.key.now; value = hashed_in sought.value }) };
 
     #[inline(always)]
-    fn compare(&self, tally: &mut T, pair: &KeyValue) -> Ordering {
+    fn compare(&self, tally: &mut T, place: &PairPlace) -> Ordering {
         tally.add_one();
-        pair.by_length(self.0, self.1)
+        place.compare_with(self.texts, self.key, self.value)
     }
 }
 
 /// A sorted set of facts, in which a query compares only a few of them. It represents the set of the pairs of the
 /// values that it was made from.
-// Names and pairs are in lists of their own, so that each allocation is smaller than one list of both would need.
+// All texts are in one string, so that an index takes at most three allocations.
 #[derive(Drop)]
 pub struct FactIndex {
-    names: Sorted<Ident>,
-    pairs: Sorted<KeyValue>,
-    ghost names_sorted: { IsSorted (on alone length_cmp) names.members.items } by { Prim.hlevel props },
-    ghost pairs_sorted: { IsSorted (on key_value length_cmp) pairs.members.items } by { Prim.hlevel props },
+    texts: String,
+    names: Sorted<HashedPlace>,
+    pairs: Sorted<PairPlace>,
+    ghost names_hashed: { All (HasNameHash (string_bytes texts)) names.members.items } by { Prim.hlevel props },
+    ghost values_hashed: { All (HasValueHash (string_bytes texts)) pairs.members.items } by { Prim.hlevel props },
+    ghost names_sorted: { IsSorted (name_order (string_bytes texts)) names.members.items } by { Prim.hlevel props },
+    ghost pairs_sorted: { IsSorted (pair_order (string_bytes texts)) pairs.members.items } by { Prim.hlevel props },
 }
 
 impl FactIndex {
@@ -183,25 +145,49 @@ impl FactIndex {
         // It represents the set of the facts in `cfg`.
         ensures { IfOk result (λ index. ⟦<FactIndex as Facts>⟧.meant index ≡ fact_set (map value_of cfg.now)) }
     {
-        let name_count = cfg
-            .iter()
-            .filter(|fact| matches!(fact, Cfg::Name(_)))
-            .count();
+        let (name_count, length) = sizes(cfg);
+        let mut texts = String::with_capacity(alloc, length)?;
         let mut names = Vec::with_capacity(alloc, name_count)?;
         let mut pairs = Vec::with_capacity(alloc, cfg.len() - name_count)?;
         for fact in cfg {
             match fact {
-                Cfg::Name(name) => names.push(name.clone(alloc)?)?,
-                Cfg::KeyPair(key, value) => pairs.push(KeyValue::new(alloc, key, value)?)?,
+                Cfg::Name(name) => names.push(HashedPlace::append(&mut texts, &name.name)?)?,
+                Cfg::KeyPair(key, value) => {
+                    pairs.push(PairPlace::append(&mut texts, &key.name, value)?)?;
+                }
             }
         }
-        names.sort_unstable_by(by_length);
-        pairs.sort_unstable_by(|a: &KeyValue, b: &KeyValue| a.by_length(&b.key, &b.value));
+        let whole = texts.as_str();
+        names.sort_unstable_by(|a: &HashedPlace, b: &HashedPlace| a.compare(whole, *b));
+        pairs.sort_unstable_by(|a: &PairPlace, b: &PairPlace| a.compare(whole, *b));
         Ok(FactIndex {
+            texts,
             names: Sorted::new(names),
             pairs: Sorted::new(pairs),
         })
     }
+}
+
+/// Returns the number of names in a list of facts, and the number of bytes of all its texts.
+fn sizes(cfg: &[Cfg]) -> (usize, usize)
+    ensures { result.0 ≤ length cfg.now }
+{
+    let mut names: usize = 0;
+    let mut bytes: usize = 0;
+    for fact in cfg {
+        match fact {
+            Cfg::Name(name) => {
+                names += 1;
+                bytes = bytes.saturating_add(name.name.len());
+            }
+            Cfg::KeyPair(key, value) => {
+                bytes = bytes
+                    .saturating_add(key.name.len())
+                    .saturating_add(value.len());
+            }
+        }
+    }
+    (names, bytes)
 }
 
 impl Facts for FactIndex {
@@ -210,9 +196,19 @@ impl Facts for FactIndex {
     ghost meant = { λ index. fact_set (indexed index) };
 
     fn holds(&self, c: &Cfg) -> bool {
+        let texts = self.texts.as_str();
         match c {
-            Cfg::Name(name) => self.names.has(&SoughtName(name), &mut Uncounted),
-            Cfg::KeyPair(key, value) => self.pairs.has(&SoughtPair(key, value), &mut Uncounted),
+            Cfg::Name(name) => {
+                let name = HashedText::new(&name.name);
+                let sought = SoughtName { texts, name };
+                self.names.has(&sought, &mut Uncounted)
+            }
+            Cfg::KeyPair(key, value) => {
+                let key = key.name.as_str();
+                let value = HashedText::new(value);
+                let sought = SoughtPair { texts, key, value };
+                self.pairs.has(&sought, &mut Uncounted)
+            }
         }
     }
 }

@@ -23,6 +23,7 @@ mod matching;
 mod order;
 mod parentheses;
 mod parser;
+mod places;
 mod platforms;
 mod reader;
 mod refusal;
