@@ -10,7 +10,7 @@ pub mod Classes
 pub mod Reports
 pub mod Lengths
 pub mod Rustcs
-pub mod Founds
+pub mod CheckedKeys
 pub mod MoreSames
 pub mod MoreEquivalents
 pub mod Missed

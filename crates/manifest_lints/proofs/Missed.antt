@@ -28,7 +28,7 @@ use Rattle.manifest_lints.specs.declared.earlier.Keys.{Keys}
 use Rattle.manifest_lints.specs.Reports.{left_open}
 use Rattle.manifest_lints.specs.Sames.{SpellsOne, HasSame, IsFirst, IsSameAs, IsSpelledAt, AreMembers}
 use Rattle.manifest_lints.specs.Missed.{IsSettledAt, MissesNone, IsCovered, AreCovered}
-use Rattle.manifest_lints.proofs.Founds.{one_or}
+use Rattle.manifest_lints.proofs.CheckedKeys.{one_or}
 use Rattle.manifest_lints.proofs.MoreSames.{at_has, at_within, has_so}
 
 -- ---- conditions that are as true

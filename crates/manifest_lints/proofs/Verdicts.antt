@@ -61,9 +61,9 @@ can_fail_so k c decided.No decided.Unknown h not_yes is = absurd (true≢false i
 can_fail_so k c decided.Unknown decided.Unknown h not_yes is = absurd (true≢false is)
 
 -- what is not known needs more
-pub unknown_so : (N : Type 0) (may_ask d e : Bool) → (IsTrue d → N) → (IsTrue e → N) → (d || e) ≡ true
-    → (may_ask ≡ false) ⊎ N
-unknown_so N may_ask true e f g is = inr (f refl)
-unknown_so N may_ask false e f g is = inr (g is)
+pub unknown_so : (N : Type 0) (may_search d e : Bool) → (IsTrue d → N) → (IsTrue e → N) → (d || e) ≡ true
+    → (may_search ≡ false) ⊎ N
+unknown_so N may_search true e f g is = inr (f refl)
+unknown_so N may_search false e f g is = inr (g is)
 
 pub ruleset verdicts = (never_so, always_so, can_hold_so, can_fail_so, unknown_so)

@@ -10,4 +10,4 @@ pub mod Sames
 pub mod Missed
 pub mod Reports
 pub mod Laws
-pub mod Founds
+pub mod CheckedKeys

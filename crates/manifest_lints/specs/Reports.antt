@@ -20,7 +20,7 @@ use Rattle.manifest_lints_findings.specs.declared.codes.Code.{Code}
 use Rattle.manifest_lints_findings.specs.declared.codes.Code.TheVariants as code
 use Rattle.manifest_lints_findings.specs.declared.findings.Finding.{Finding}
 use Rattle.manifest_lints_findings.specs.declared.findings.Report.{Report}
-use Rattle.manifest_lints_findings.specs.Codes.{CodeSet, finding_level, is_told, told_codes}
+use Rattle.manifest_lints_findings.specs.Codes.{CodeSet, finding_level, is_reported, told_codes}
 use Rattle.manifest_lints_findings.specs.declared.known_keys.KnownKey.{KnownKey}
 use Rattle.manifest_lints_findings.specs.declared.readings.ReadKey.{ReadKey}
 use Rattle.manifest_lints_findings.specs.Known.{has_marked_literal, IsKnown}
@@ -129,7 +129,7 @@ IsFound k ds es ns e codes earlier is_open =
 
 -- the diagnostic of a lint on the key at an index, if it is reported
 abbrev pub told_mark : ℕ → CodeSet → Code → List Mark
-told_mark n codes c = cond (is_told codes c) ((Some n, c) ∷ []) []
+told_mark n codes c = cond (is_reported codes c) ((Some n, c) ∷ []) []
 
 -- the diagnostics on the key at an index
 abbrev pub told_marks : ℕ → CodeSet → List Mark

@@ -122,7 +122,7 @@ fn is_everywhere<'a>(
 /// target, whichever facts with these names and keys are set. Both are `false` if there are more than `MANY` names and
 /// keys. With more than `FEW` facts, only what each fact says by itself counts. Fails if memory is refused.
 #[tactic(auto, using(crate::proofs::AtTargets::settles_none))]
-pub fn places<'a>(
+pub fn nowhere_and_everywhere<'a>(
     alloc: Global,
     platform: &Platform,
     open_keys: &'a [&'a str],

@@ -53,7 +53,7 @@ fn is_unknown(decided: Decided) -> bool
 
 /// Returns whether the condition of a key may be searched over every set of facts. Returns `false` only if more than
 /// `LEVELS` parentheses of the key are nested in one another. `levels` is the number of levels of the condition.
-pub fn may_ask(levels: usize, key: &str) -> bool
+pub fn may_search(levels: usize, key: &str) -> bool
     ensures { result ≡ false → IsNestedBeyond key.now LEVELS }
 {
     if levels <= LEVELS {
@@ -150,21 +150,21 @@ fn settled<'a>(
 /// Returns whether a condition is never true, whether it is always true, and whether one of these answers is not known.
 /// Fails if memory is refused.
 #[tactic(auto, using(crate::proofs::Verdicts::verdicts))]
-pub fn asked<'a>(
+pub fn never_and_always<'a>(
     alloc: Global,
     platform: &'a Platform,
     known: &'a Known<'a>,
     budget: u64,
-    may_ask: bool,
+    may_search: bool,
 ) -> Result<(bool, bool, bool), AllocError>
     ensures never { IfOk result (λ h. IsTrue h.0 → IsNever known.now (condition_of platform.now)) }
     ensures always { IfOk result (λ h. IsTrue h.1 → IsAlways known.now (condition_of platform.now)) }
     ensures can_hold { IfOk result (λ h. h.0 ≡ false → h.2 ≡ false → CanHold known.now (condition_of platform.now)) }
     ensures can_fail { IfOk result (λ h. h.1 ≡ false → h.2 ≡ false → CanFail known.now (condition_of platform.now)) }
     ensures unknown { IfOk result (λ h. IsTrue h.2
-        → (may_ask ≡ false) ⊎ NeedsMoreFor known.now (condition_of platform.now) budget) }
+        → (may_search ≡ false) ⊎ NeedsMoreFor known.now (condition_of platform.now) budget) }
 {
-    if !may_ask {
+    if !may_search {
         return Ok((false, false, true));
     }
     let (never, always) = settled(alloc, platform, known, budget)?;

@@ -2,9 +2,9 @@
 #![tactic(auto)]
 
 mod at_targets;
+mod checked_keys;
 mod deciding;
 mod earlier;
-mod found;
 pub mod laws;
 mod linting;
 mod sample_sets;

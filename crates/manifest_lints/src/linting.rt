@@ -5,15 +5,15 @@ ghost use Rattle.std.specs.List.{All};
 ghost use Rattle.manifests.specs.Declarations.{DeclaredEntry, IsDeclaredBy, declarations_of};
 ghost use Rattle.manifests.specs.Entries.{Entry};
 ghost use Rattle.manifest_lints_findings.specs.Spells.{IsRead, entry_read};
-ghost use Rattle.manifest_lints.specs.Founds.{found_codes};
+ghost use Rattle.manifest_lints.specs.CheckedKeys.{applicable_codes};
 ghost use Rattle.manifest_lints.specs.Reports.{told_mark, told_marks, left_open, AddsFindings};
 ghost use Rattle.manifest_lints.specs.Sames.{named_place};
 ghost use Rattle.toml.specs.View.{table_view};
 ghost use Rattle.manifest_lints.specs.Reports.{entry_of, AreFindingsOn, AreFindings, IsReport};
 ghost use Rattle.manifests.specs.Tables.{target_of};
 
+use crate::checked_keys::{CheckedKey, LintContext, check_key};
 use crate::earlier::{Earlier, Keys, is_too_much};
-use crate::found::{Asking, Found, found_of};
 use exact_answers::{Known, ONE_VALUED, family_rule};
 use manifest_lints_findings::findings::target_is_no_table;
 use manifest_lints_findings::making::finding_on;
@@ -49,18 +49,18 @@ fn key_at<'a>(read: &'a [ReadKey<'a>], place: usize) -> &'a str
 fn add_finding(
     alloc: Global,
     words: &Words,
-    found: &Found<'_>,
+    checked: &CheckedKey<'_>,
     other: &str,
     code: Code,
     findings: &mut Vec<Finding>,
 ) -> Result<(), AllocError>
-    ensures { OnOk result (AddsFindings (told_mark found.now.key.place (found_codes found.now) code) other.now
-        found.now.key findings.old.items findings.new.items) }
+    ensures { OnOk result (AddsFindings (told_mark checked.now.key.place (applicable_codes checked.now) code) other.now
+        checked.now.key findings.old.items findings.new.items) }
 {
-    if !found.is_told(code) {
+    if !checked.is_reported(code) {
         return Ok(());
     }
-    let finding = finding_on(alloc, words, &found.key, other, code)?;
+    let finding = finding_on(alloc, words, &checked.key, other, code)?;
     findings.push(finding)?;
     Ok(())
 }
@@ -69,26 +69,26 @@ fn add_finding(
 fn add_findings(
     alloc: Global,
     words: &Words,
-    found: &Found<'_>,
+    checked: &CheckedKey<'_>,
     other: &str,
     findings: &mut Vec<Finding>,
 ) -> Result<(), AllocError>
-    ensures { OnOk result (AddsFindings (told_marks found.now.key.place (found_codes found.now)) other.now
-        found.now.key findings.old.items findings.new.items) }
+    ensures { OnOk result (AddsFindings (told_marks checked.now.key.place (applicable_codes checked.now)) other.now
+        checked.now.key findings.old.items findings.new.items) }
 {
     'codes: for code in CODES {
-        add_finding(alloc, words, found, other, code, findings)?;
+        add_finding(alloc, words, checked, other, code, findings)?;
     }
     Ok(())
 }
 
 /// Appends the index of a key if an answer about it is not known.
-fn note_undecided(found: &Found<'_>, undecided: &mut Vec<usize>) -> Result<(), AllocError>
+fn note_undecided(checked: &CheckedKey<'_>, undecided: &mut Vec<usize>) -> Result<(), AllocError>
     ensures { OnOk result
-        (undecided.new.items ≡ undecided.old.items ++ left_open found.now.key.place found.now.answers.is_open) }
+        (undecided.new.items ≡ undecided.old.items ++ left_open checked.now.key.place checked.now.answers.is_open) }
 {
-    if found.answers.is_open {
-        undecided.push(found.key.place)?;
+    if checked.answers.is_open {
+        undecided.push(checked.key.place)?;
     }
     Ok(())
 }
@@ -116,11 +116,11 @@ fn bytes_with(bytes: usize, text: &str) -> usize
 fn findings_on<'a>(
     alloc: Global,
     words: &Words,
-    asking: &Asking<'a>,
+    context: &LintContext<'a>,
     read: &'a [ReadKey<'a>],
 ) -> Result<(Vec<Finding>, Vec<usize>), AllocError>
     ensures { All IsRead read.now
-        → IfOk result (λ r. AreFindingsOn asking.now.known.now (declarations_of asking.now.declared.now)
+        → IfOk result (λ r. AreFindingsOn context.now.known.now (declarations_of context.now.declared.now)
         (map entry_read read.now) r.0.items r.1.items) }
 {
     let mut findings = Vec::new(alloc);
@@ -129,15 +129,15 @@ fn findings_on<'a>(
     let mut bytes = 0;
     'keys: for (place, key) in read.iter().enumerate() {
         bytes = bytes_with(bytes, key.text);
-        let asking = Asking {
-            declared: asking.declared,
-            known: asking.known,
+        let context = LintContext {
+            declared: context.declared,
+            known: context.known,
             is_too_much: is_too_much(place, bytes),
         };
-        let found = found_of(alloc, &asking, place, key, &mut before)?;
-        let other = earlier_key(read, found.answers.earlier);
-        note_undecided(&found, &mut undecided)?;
-        add_findings(alloc, words, &found, other, &mut findings)?;
+        let checked = check_key(alloc, &context, place, key, &mut before)?;
+        let other = earlier_key(read, checked.answers.earlier);
+        note_undecided(&checked, &mut undecided)?;
+        add_findings(alloc, words, &checked, other, &mut findings)?;
     }
     Ok((findings, undecided))
 }
@@ -163,13 +163,13 @@ fn report_on<'a>(
         assumed: &rule,
     };
     let declared = Declared::of(alloc, manifest)?;
-    let asking = Asking {
+    let context = LintContext {
         declared: &declared,
         known: &known,
         is_too_much: false,
     };
     let read = read_keys(alloc, keys)?;
-    let (findings, undecided) = findings_on(alloc, words, &asking, &read)?;
+    let (findings, undecided) = findings_on(alloc, words, &context, &read)?;
     Ok(Report {
         keys: read,
         findings,

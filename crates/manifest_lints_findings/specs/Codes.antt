@@ -77,9 +77,9 @@ hiders code.NotCanonical = code.ReadOtherwise ∷ code.UnknownTarget ∷ code.Un
 hiders _ = []
 
 -- true if a lint is reported: it applies, and no other lint hides it
-abbrev pub is_told : CodeSet → Code → Bool
-is_told holds c = holds c && not (list_any holds (hiders c))
+abbrev pub is_reported : CodeSet → Code → Bool
+is_reported holds c = holds c && not (list_any holds (hiders c))
 
 -- the lints that are reported on a key, in their order
 abbrev pub told_codes : CodeSet → List Code
-told_codes holds = filter (is_told holds) CODES
+told_codes holds = filter (is_reported holds) CODES

@@ -9,7 +9,7 @@ use Rattle.manifest_lints_findings.specs.declared.codes.Code.TheVariants as code
 
 -- the diagnostic of a lint on the key at an index, if it is reported
 abbrev pub mark_where : ℕ → Bool → Code → List Mark
-mark_where n is_told c = cond is_told ((Some n, c) ∷ []) []
+mark_where n is_reported c = cond is_reported ((Some n, c) ∷ []) []
 
 -- they report the name of a target that is not known, what is taken for a fact of rustc's, and what only `--cfg` sets
 pub record AreUnknown (c : Condition) (ms : List Mark) : Type 0 where

@@ -1,18 +1,18 @@
-use Rattle.manifest_lints_findings.specs.Codes.{is_told}
+use Rattle.manifest_lints_findings.specs.Codes.{is_reported}
 use Rattle.manifest_lints_findings.specs.declared.codes.TheConstants.{CODES}
-use Rattle.manifest_lints.specs.Founds.{found_codes}
+use Rattle.manifest_lints.specs.CheckedKeys.{applicable_codes}
 use Rattle.manifest_lints.proofs.Reports.{adds_none, one_code, all_codes}
 use Rattle.manifest_lints.proofs.linting.add_findings.Goals as goal
 
 pub codes-init : goal.codes-init
-codes-init c = adds_none c.args.other.now c.args.found.now.key c.args.findings.now.items
+codes-init c = adds_none c.args.other.now c.args.checked.now.key c.args.findings.now.items
 
 pub codes-preserved : goal.codes-preserved
 codes-preserved c =
-    one_code (is_told (found_codes c.args.found.now)) c.args.found.now.key.place CODES c.codes.code-index _
-    c.codes-test.true c.args.other.now c.args.found.now.key _ _ _ c.codes.invariant c.in_ok-add_finding.ensures
+    one_code (is_reported (applicable_codes c.args.checked.now)) c.args.checked.now.key.place CODES c.codes.code-index _
+    c.codes-test.true c.args.other.now c.args.checked.now.key _ _ _ c.codes.invariant c.in_ok-add_finding.ensures
 
 pub returns : goal.returns
 returns c =
-    all_codes (is_told (found_codes c.args.found.now)) c.args.found.now.key.place c.codes.code-index CODES
-    c.args.other.now c.args.found.now.key c.args.findings.now.items _ c.codes-test.false c.codes.invariant
+    all_codes (is_reported (applicable_codes c.args.checked.now)) c.args.checked.now.key.place c.codes.code-index CODES
+    c.args.other.now c.args.checked.now.key c.args.findings.now.items _ c.codes-test.false c.codes.invariant

@@ -11,12 +11,12 @@ abbrev pub invariant-keys : goal.invariant-keys
 invariant-keys l = record {
   findings :
       All IsRead l.read
-      → AreFindingsOn l.asking.known.now (declarations_of l.asking.declared.now) (map entry_read (take l.place l.read))
+      → AreFindingsOn l.context.known.now (declarations_of l.context.declared.now) (map entry_read (take l.place l.read))
       l.findings.items l.undecided.items;
   noted_keys : All IsRead l.read → AreNoted (map entry_read (take l.place l.read)) l.before;
   members : All IsRead l.read → AreMembers (map entry_read (take l.place l.read)) l.before;
   covered :
       All IsRead l.read
-      → AreCovered l.asking.known.now (map entry_read (take l.place l.read)) l.undecided.items l.before;
+      → AreCovered l.context.known.now (map entry_read (take l.place l.read)) l.undecided.items l.before;
   bytes : l.bytes ≤ bytes_of (map entry_read (take l.place l.read));
 }

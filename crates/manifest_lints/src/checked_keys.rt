@@ -6,7 +6,7 @@ ghost use Rattle.cargo_platform.specs.Trees.{condition_of};
 ghost use Rattle.cargo_platform.specs.Nesting.{IsNestedBeyond};
 ghost use Rattle.manifests.specs.Declarations.{declarations_of};
 ghost use Rattle.manifests.specs.Entries.{Entry};
-ghost use Rattle.manifest_lints_findings.specs.Codes.{is_told};
+ghost use Rattle.manifest_lints_findings.specs.Codes.{is_reported};
 ghost use Rattle.manifest_lints_findings.specs.Known.{IsKnown};
 ghost use Rattle.manifest_lints_findings.specs.Spells.{IsRead, entry_read};
 ghost use Rattle.manifest_lints.specs.Earlier.{noted, Notes, AddsMember, HasEquivalentMember};
@@ -16,13 +16,13 @@ ghost use Rattle.manifest_lints.specs.Rustcs.{AllowsRustcs};
 ghost use Rattle.manifest_lints.specs.Classes.{AreClassed, TellsNoneEquivalent};
 ghost use Rattle.manifest_lints.specs.declared.at_targets.TheConstants.{MANY};
 ghost use Rattle.manifest_lints.specs.declared.deciding.TheConstants.{LEVELS};
-ghost use Rattle.manifest_lints.specs.Founds.{found_codes, AnswersFor};
+ghost use Rattle.manifest_lints.specs.CheckedKeys.{applicable_codes, AnswersFor};
 ghost use Rattle.manifest_lints.specs.Missed.{AreCovered};
 ghost use Rattle.manifest_lints.specs.Reports.{IsFound, MayBeOpen, AreTooLong, left_open};
 ghost use Rattle.manifest_lints.specs.Sames.{AreNoted, AreMembers};
 
-use crate::at_targets::{MANY, places};
-use crate::deciding::{asked, budget_for, either, may_ask};
+use crate::at_targets::{MANY, nowhere_and_everywhere};
+use crate::deciding::{budget_for, either, may_search, never_and_always};
 use crate::earlier::{Earlier, Keys};
 use cargo_platform::Platform;
 use exact_answers::Known;
@@ -35,7 +35,7 @@ use std::alloc::{AllocError, Global};
 
 /// The settings that are the same for all keys of a manifest.
 #[derive(Drop)]
-pub struct Asking<'a> {
+pub struct LintContext<'a> {
     /// The declarations of the manifest.
     pub declared: &'a Declared<'a>,
     /// The knowledge of the facts of each target.
@@ -63,17 +63,17 @@ pub struct Answers {
 
 /// A key, with the answers about it.
 #[derive(Drop)]
-pub struct Found<'a> {
+pub struct CheckedKey<'a> {
     /// The properties of the key by itself.
     pub key: KnownKey<'a>,
     /// The answers about the key.
     pub answers: Answers,
 }
 
-impl<'a> Found<'a> {
+impl<'a> CheckedKey<'a> {
     /// Returns whether a lint applies to the key.
     pub fn holds(&self, code: Code) -> bool
-        ensures { result ≡ found_codes self.now code }
+        ensures { result ≡ applicable_codes self.now code }
     {
         match code {
             Code::Never => self.answers.never,
@@ -88,8 +88,8 @@ impl<'a> Found<'a> {
 
     /// Returns whether a diagnostic of this lint is reported: the lint applies, and no other lint that applies hides
     /// it. A lint that is hidden for one name only is reported for the other names, and so is not hidden here.
-    pub fn is_told(&self, code: Code) -> bool
-        ensures { result ≡ is_told (found_codes self.now) code }
+    pub fn is_reported(&self, code: Code) -> bool
+        ensures { result ≡ is_reported (applicable_codes self.now) code }
     {
         if !self.holds(code) {
             return false;
@@ -106,24 +106,35 @@ impl<'a> Found<'a> {
 /// Returns the answers about a condition by itself.
 fn answers_alone<'a>(
     alloc: Global,
-    asking: &Asking<'a>,
+    context: &LintContext<'a>,
     key: &KnownKey<'a>,
     condition: &'a Platform,
 ) -> Result<Answers, AllocError>
-    ensures alone { (IsKnown (declarations_of asking.now.declared.now) key.now.read.now key.now)
+    ensures alone { (IsKnown (declarations_of context.now.declared.now) key.now.read.now key.now)
         → key.now.read.now.spelled ≡ Spelled.Condition condition.now
-        → IfOk result (λ a. AnswersFor asking.now.known.now (declarations_of asking.now.declared.now)
+        → IfOk result (λ a. AnswersFor context.now.known.now (declarations_of context.now.declared.now)
         (condition_of condition.now) a) }
-    ensures left_open { (IsKnown (declarations_of asking.now.declared.now) key.now.read.now key.now)
+    ensures left_open { (IsKnown (declarations_of context.now.declared.now) key.now.read.now key.now)
         → key.now.read.now.spelled ≡ Spelled.Condition condition.now → (es : List Entry)
-        → IfOk result (λ a. IsTrue a.is_open → MayBeOpen asking.now.known.now (declarations_of asking.now.declared.now)
+        → IfOk result (λ a. IsTrue a.is_open → MayBeOpen context.now.known.now (declarations_of context.now.declared.now)
         es key.now.read.now.text.now (condition_of condition.now)) }
 {
     let open = open_names(alloc, &key.predicates)?;
-    let (nowhere, everywhere) = places(alloc, condition, &open, key.predicates.len())?;
+    let (nowhere, everywhere) = nowhere_and_everywhere(
+        alloc,
+        condition,
+        &open,
+        key.predicates.len(),
+    )?;
     let budget = budget_for(key.predicates.len());
-    let may_ask = may_ask(key.levels, key.read.text);
-    let (never, always, unknown) = asked(alloc, condition, asking.known, budget, may_ask)?;
+    let may_search = may_search(key.levels, key.read.text);
+    let (never, always, unknown) = never_and_always(
+        alloc,
+        condition,
+        context.known,
+        budget,
+        may_search,
+    )?;
     Ok(Answers {
         never,
         always,
@@ -153,7 +164,7 @@ fn budget_beside(key: &KnownKey<'_>, decides: bool, is_too_much: bool) -> Option
     if is_too_much {
         return None;
     }
-    if !may_ask(key.levels, key.read.text) {
+    if !may_search(key.levels, key.read.text) {
         return None;
     }
     Some(budget_for(key.predicates.len()))
@@ -169,37 +180,37 @@ fn stays_open(earlier: Earlier, decides: bool) -> bool
 /// Returns the answers about a condition, by itself and compared with those before it.
 fn answers_of<'a>(
     alloc: Global,
-    asking: &Asking<'a>,
+    context: &LintContext<'a>,
     key: &KnownKey<'a>,
     condition: &'a Platform,
     before: &mut Keys<'a>,
 ) -> Result<Answers, AllocError>
-    ensures alone { (IsKnown (declarations_of asking.now.declared.now) key.now.read.now key.now)
+    ensures alone { (IsKnown (declarations_of context.now.declared.now) key.now.read.now key.now)
         → key.now.read.now.spelled ≡ Spelled.Condition condition.now
-        → IfOk result (λ a. AnswersFor asking.now.known.now (declarations_of asking.now.declared.now)
+        → IfOk result (λ a. AnswersFor context.now.known.now (declarations_of context.now.declared.now)
         (condition_of condition.now) a) }
-    ensures left_open { (IsKnown (declarations_of asking.now.declared.now) key.now.read.now key.now)
+    ensures left_open { (IsKnown (declarations_of context.now.declared.now) key.now.read.now key.now)
         → key.now.read.now.spelled ≡ Spelled.Condition condition.now → (es : List Entry) → AreMembers es before.old
-        → (IsTrue asking.now.is_too_much → AreTooLong es key.now.read.now.text.now)
-        → IfOk result (λ a. IsTrue a.is_open → MayBeOpen asking.now.known.now (declarations_of asking.now.declared.now)
+        → (IsTrue context.now.is_too_much → AreTooLong es key.now.read.now.text.now)
+        → IfOk result (λ a. IsTrue a.is_open → MayBeOpen context.now.known.now (declarations_of context.now.declared.now)
         es key.now.read.now.text.now (condition_of condition.now)) }
     ensures same { IfOk result (λ a. same_place a.earlier ≡ noted before.old condition.entry) }
     ensures equivalent { IfOk result (λ a. IfSome (equivalent_place a.earlier)
-        (HasEquivalentMember asking.now.known.now before.old (condition_of condition.entry.now))) }
+        (HasEquivalentMember context.now.known.now before.old (condition_of condition.entry.now))) }
     ensures notes { OnOk result (Notes before.old before.new key.now.place condition.entry) }
     ensures members { OnOk result (AddsMember before.old before.new key.now.place condition.entry) }
-    ensures unlike { AllowsRustcs asking.now.known.now → AreClassed before.old
-        → IfOk result (λ a. TellsNoneEquivalent asking.now.known.now before.old (condition_of condition.entry.now)
+    ensures unlike { AllowsRustcs context.now.known.now → AreClassed before.old
+        → IfOk result (λ a. TellsNoneEquivalent context.now.known.now before.old (condition_of condition.entry.now)
         a.earlier) }
     ensures classed { AreClassed before.old → OnOk result (AreClassed before.new) }
     ensures puts { IfOk result (λ a. PutsUnlike before.old before.new key.now.place condition.entry a.earlier) }
     ensures decided { IfOk result (λ a. a.is_open ≡ false → IsTrue (is_undecided a.earlier)
         → (a.never || a.always) ≡ true) }
 {
-    let mut answers = answers_alone(alloc, asking, key, condition)?;
+    let mut answers = answers_alone(alloc, context, key, condition)?;
     let decides = answers.never || answers.always;
-    let budget = budget_beside(key, decides, asking.is_too_much);
-    let known = asking.known;
+    let budget = budget_beside(key, decides, context.is_too_much);
+    let known = context.known;
     answers.earlier = before.add(alloc, key.place, condition, known, budget)?;
     let is_open = stays_open(answers.earlier, decides);
     answers.is_open = either(answers.is_open, is_open);
@@ -217,31 +228,31 @@ const NONE: Answers = Answers {
 };
 
 /// Returns the key at index `place`, with the answers about it, after the keys before it. Fails if memory is refused.
-pub fn found_of<'a>(
+pub fn check_key<'a>(
     alloc: Global,
-    asking: &Asking<'a>,
+    context: &LintContext<'a>,
     place: usize,
     read: &'a ReadKey<'a>,
     before: &mut Keys<'a>,
-) -> Result<Found<'a>, AllocError>
+) -> Result<CheckedKey<'a>, AllocError>
     ensures place { IfOk result (λ f. f.key.place ≡ place) }
-    ensures known { IfOk result (λ f. IsKnown (declarations_of asking.now.declared.now) read.now f.key) }
-    ensures found { IsRead read.now → (es : List Entry) → length es ≡ place → AreNoted es before.old
-        → AreMembers es before.old → (IsTrue asking.now.is_too_much → AreTooLong es read.now.text.now)
-        → (ns : List ℕ) → AreCovered asking.now.known.now es ns before.old
-        → IfOk result (λ f. IsFound asking.now.known.now
-        (declarations_of asking.now.declared.now) es ns (entry_read read.now) (found_codes f) f.answers.earlier
+    ensures known { IfOk result (λ f. IsKnown (declarations_of context.now.declared.now) read.now f.key) }
+    ensures checked { IsRead read.now → (es : List Entry) → length es ≡ place → AreNoted es before.old
+        → AreMembers es before.old → (IsTrue context.now.is_too_much → AreTooLong es read.now.text.now)
+        → (ns : List ℕ) → AreCovered context.now.known.now es ns before.old
+        → IfOk result (λ f. IsFound context.now.known.now
+        (declarations_of context.now.declared.now) es ns (entry_read read.now) (applicable_codes f) f.answers.earlier
         f.answers.is_open × AreNoted (es ++ entry_read read.now ∷ []) before.new
         × (AreMembers (es ++ entry_read read.now ∷ []) before.new
-        × AreCovered asking.now.known.now (es ++ entry_read read.now ∷ []) (ns ++ left_open place f.answers.is_open)
+        × AreCovered context.now.known.now (es ++ entry_read read.now ∷ []) (ns ++ left_open place f.answers.is_open)
         before.new)) }
 {
-    let key = KnownKey::of(alloc, read, place, asking.declared)?;
+    let key = KnownKey::of(alloc, read, place, context.declared)?;
     match &read.spelled {
         Spelled::Condition(condition) => {
-            let answers = answers_of(alloc, asking, &key, condition, before)?;
-            Ok(Found { key, answers })
+            let answers = answers_of(alloc, context, &key, condition, before)?;
+            Ok(CheckedKey { key, answers })
         }
-        Spelled::ByCargo(_) | Spelled::Refused(_) => Ok(Found { key, answers: NONE }),
+        Spelled::ByCargo(_) | Spelled::Refused(_) => Ok(CheckedKey { key, answers: NONE }),
     }
 }

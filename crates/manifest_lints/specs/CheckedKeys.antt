@@ -10,8 +10,8 @@ use Rattle.manifest_lints_findings.specs.Known.{holds_alone}
 use Rattle.manifest_lints.specs.declared.at_targets.TheConstants.{MANY}
 use Rattle.manifest_lints.specs.Truths.{IsNever, IsAlways, CanHold, CanFail}
 use Rattle.manifest_lints.specs.Earlier.{is_same, is_equivalent}
-use Rattle.manifest_lints.specs.declared.found.Answers.{Answers}
-use Rattle.manifest_lints.specs.declared.found.Found.{Found}
+use Rattle.manifest_lints.specs.declared.checked_keys.Answers.{Answers}
+use Rattle.manifest_lints.specs.declared.checked_keys.CheckedKey.{CheckedKey}
 use Rattle.manifest_lints.specs.Reports.{Settles, SettlesPlaces}
 
 -- the answers about a condition by itself are right
@@ -23,11 +23,11 @@ pub record AnswersFor (k : Known) (ds : List DeclaredEntry) (c : Condition) (a :
   pub many : MANY < length (open_in (sorted_in ds c)) → IsTrue a.is_open
 
 -- the lints that apply to a key: by its answers, and by the key itself
-abbrev pub found_codes : Found → CodeSet
-found_codes f code.Never = f.answers.never
-found_codes f code.Nowhere = f.answers.nowhere
-found_codes f code.Same = is_same f.answers.earlier
-found_codes f code.Equivalent = is_equivalent f.answers.earlier
-found_codes f code.Always = f.answers.always
-found_codes f code.Everywhere = f.answers.everywhere
-found_codes f c = holds_alone f.key c
+abbrev pub applicable_codes : CheckedKey → CodeSet
+applicable_codes f code.Never = f.answers.never
+applicable_codes f code.Nowhere = f.answers.nowhere
+applicable_codes f code.Same = is_same f.answers.earlier
+applicable_codes f code.Equivalent = is_equivalent f.answers.earlier
+applicable_codes f code.Always = f.answers.always
+applicable_codes f code.Everywhere = f.answers.everywhere
+applicable_codes f c = holds_alone f.key c

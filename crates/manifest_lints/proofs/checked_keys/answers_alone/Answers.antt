@@ -11,8 +11,8 @@ use Rattle.manifest_lints.specs.declared.at_targets.TheConstants.{MANY}
 use Rattle.manifest_lints.specs.Truths.{NeedsMoreFor, budget_of}
 use Rattle.manifest_lints.specs.AtTargets.{SettlesOn}
 use Rattle.manifest_lints.specs.Reports.{too_deep, many_open, few_splits}
-use Rattle.manifest_lints.proofs.Founds.{left_false, right_or, one_or}
-use Rattle.manifest_lints.proofs.found.answers_alone.Goals as goal
+use Rattle.manifest_lints.proofs.CheckedKeys.{left_false, right_or, one_or}
+use Rattle.manifest_lints.proofs.checked_keys.answers_alone.Goals as goal
 
 -- as many names and keys are open as stand in a slice of them
 as_many : (ts : List (Bor (List ℕ))) (ns : List (List ℕ)) → names_of ts ≡ ns → length ns ≡ length ts
@@ -23,7 +23,7 @@ counted n fs is = is ∙ sym (length-map fs sorted_of)
 
 pub returns-clause-alone : goal.returns-clause-alone
 returns-clause-alone c = λ known is.
-    let ds = declarations_of c.args.asking.now.declared.now in
+    let ds = declarations_of c.args.context.now.declared.now in
     let p = condition_of c.args.condition.now in
     let asked = c.in_ok-never.ensures in
     let places = c.in_ok-nowhere.ensures in
@@ -53,8 +53,8 @@ returns-clause-alone c = λ known is.
 
 pub returns-clause-left_open : goal.returns-clause-left_open
 returns-clause-left_open c = λ known is es holds.
-    let k = c.args.asking.now.known.now in
-    let ds = declarations_of c.args.asking.now.declared.now in
+    let k = c.args.context.now.known.now in
+    let ds = declarations_of c.args.context.now.declared.now in
     let p = condition_of c.args.condition.now in
     let asked_is = known.predicates ∙ ap (sorted_of_spelled ds) is in
     let names : names_of c.deref-3.result.now ≡ open_in (sorted_in ds p) =
@@ -66,7 +66,7 @@ returns-clause-left_open c = λ known is es holds.
     elim (one_or _ _ (sym c.either.ensures ∙ holds)) [
       | inl unknown ↦
           elim (c.in_ok-never.ensures.unknown unknown) [
-            | inl not_asked ↦ too_deep (c.may_ask-may_ask.ensures not_asked)
+            | inl not_asked ↦ too_deep (c.may_search-may_search.ensures not_asked)
             | inr more ↦
                 few_splits (subst (λ b. NeedsMoreFor k p b) (c.budget_for-budget.ensures ∙ ap budget_of (counted ∙
                 long)) more)

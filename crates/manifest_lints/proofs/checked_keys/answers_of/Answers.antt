@@ -5,21 +5,21 @@ use Rattle.manifests.specs.Declarations.{declarations_of}
 use Rattle.manifest_lints.specs.Earlier.{is_undecided}
 use Rattle.manifest_lints_standings.specs.Standings.{sorted_of, sorted_in}
 use Rattle.manifest_lints_findings.specs.Known.{sorted_of_spelled}
-use Rattle.manifest_lints.proofs.Founds.{beside_others, one_or}
+use Rattle.manifest_lints.proofs.CheckedKeys.{beside_others, one_or}
 use Rattle.manifest_lints.proofs.MoreEquivalents.{open_beside}
 use Rattle.manifest_lints.proofs.Missed.{decided_then}
-use Rattle.manifest_lints.proofs.found.answers_of.Goals as goal
+use Rattle.manifest_lints.proofs.checked_keys.answers_of.Goals as goal
 
 pub returns-clause-alone : goal.returns-clause-alone
 returns-clause-alone c = λ known is.
-    beside_others c.args.asking.now.known.now (declarations_of c.args.asking.now.declared.now)
+    beside_others c.args.context.now.known.now (declarations_of c.args.context.now.declared.now)
     (condition_of c.args.condition.now) c.in_ok-answers.answers c.in_ok-answers-2.field-0 c.stays_open-is_open.result
     c.either.result c.either.ensures (c.in_ok-answers.ensures.alone known is)
 
 pub returns-clause-left_open : goal.returns-clause-left_open
 returns-clause-left_open c = λ known is es members much holds.
-    let k = c.args.asking.now.known.now in
-    let ds = declarations_of c.args.asking.now.declared.now in
+    let k = c.args.context.now.known.now in
+    let ds = declarations_of c.args.context.now.declared.now in
     let p = condition_of c.args.condition.now in
     let key = c.args.key.now in
     let long : length key.predicates.items ≡ length (sorted_in ds p) =
@@ -28,7 +28,7 @@ returns-clause-left_open c = λ known is es members much holds.
       | inl alone ↦ c.in_ok-answers.ensures.left_open known is es alone
       | inr beside ↦
           open_beside k es c.args.before.now p members ds key.read.now.text.now c.budget_beside-budget.result _
-          c.args.asking.now.is_too_much _ (length key.predicates.items) c.budget_beside-budget.ensures much long
+          c.args.context.now.is_too_much _ (length key.predicates.items) c.budget_beside-budget.ensures much long
           c.in_ok-answers-2.ensures.undecided
           (sym c.stays_open-is_open.ensures ∙ beside)
     ]

@@ -9,18 +9,18 @@ use Rattle.manifest_lints_findings.specs.Spells.{IsSpelledAs, entry_read}
 use Rattle.manifest_lints.specs.Earlier.{same_place, equivalent_place, is_undecided}
 use Rattle.manifest_lints.specs.Missed.{AreCovered}
 use Rattle.manifest_lints.specs.Reports.{MayBeOpen, AreTooLong, left_open as listed}
-use Rattle.manifest_lints.proofs.Founds.{found_spelled, found_unspelled, spells_nothing}
+use Rattle.manifest_lints.proofs.CheckedKeys.{found_spelled, found_unspelled, spells_nothing}
 use Rattle.manifest_lints.specs.Sames.{IsFirst, IsSameAs}
 use Rattle.manifest_lints.proofs.MoreSames.{one_noted, tells_same, tells_equivalent, names_rightly, none_more}
 use Rattle.manifest_lints.proofs.MoreEquivalents.{one_member, equivalent_one, more_members}
 use Rattle.manifest_lints.proofs.Missed.{misses_none, one_covered, nothing_covered, never_or_always}
-use Rattle.manifest_lints.proofs.found.found_of.Goals as goal
+use Rattle.manifest_lints.proofs.checked_keys.check_key.Goals as goal
 
-pub returns-in_ok-answers-in-Condition-clause-found : goal.returns-in_ok-answers-in-Condition-clause-found
-returns-in_ok-answers-in-Condition-clause-found c = λ read es long are_noted members much ns covered.
-    let k = c.args.asking.now.known.now in
-    let far = c.args.asking.now.is_too_much in
-    let ds = declarations_of c.args.asking.now.declared.now in
+pub returns-in_ok-answers-in-Condition-clause-checked : goal.returns-in_ok-answers-in-Condition-clause-checked
+returns-in_ok-answers-in-Condition-clause-checked c = λ read es long are_noted members much ns covered.
+    let k = c.args.context.now.known.now in
+    let far = c.args.context.now.is_too_much in
+    let ds = declarations_of c.args.context.now.declared.now in
     let r = c.args.read.now in
     let e = entry_read r in
     let at = c.args.read.ref_ptr in
@@ -61,10 +61,10 @@ returns-in_ok-answers-in-Condition-clause-found c = λ read es long are_noted me
       ),
     )
 
-pub returns-in-ByCargo-clause-found : goal.returns-in-ByCargo-clause-found
-returns-in-ByCargo-clause-found c = λ read es long are_noted members much ns covered.
-    let k = c.args.asking.now.known.now in
-    let ds = declarations_of c.args.asking.now.declared.now in
+pub returns-in-ByCargo-clause-checked : goal.returns-in-ByCargo-clause-checked
+returns-in-ByCargo-clause-checked c = λ read es long are_noted members much ns covered.
+    let k = c.args.context.now.known.now in
+    let ds = declarations_of c.args.context.now.declared.now in
     let r = c.args.read.now in
     let e = entry_read r in
     let none : is_condition r.spelled ≡ false = elim c.in-ByCargo.is [

@@ -22,10 +22,10 @@ use Rattle.manifest_lints.specs.Truths.{IsNever, IsAlways, CanHold, CanFail}
 use Rattle.manifest_lints.specs.Earlier.{is_same, is_equivalent}
 use Rattle.manifest_lints.specs.declared.earlier.Earlier.{Earlier}
 use Rattle.manifests.specs.Entries.{Entry}
-use Rattle.manifest_lints.specs.declared.found.Answers.{Answers}
-use Rattle.manifest_lints.specs.declared.found.Found.{Found}
-use Rattle.manifest_lints.specs.declared.found.TheConstants.{NONE}
-use Rattle.manifest_lints.specs.Founds.{AnswersFor, found_codes}
+use Rattle.manifest_lints.specs.declared.checked_keys.Answers.{Answers}
+use Rattle.manifest_lints.specs.declared.checked_keys.CheckedKey.{CheckedKey}
+use Rattle.manifest_lints.specs.declared.checked_keys.TheConstants.{NONE}
+use Rattle.manifest_lints.specs.CheckedKeys.{AnswersFor, applicable_codes}
 use Rattle.manifest_lints.specs.Reports.{Settles, Holds, HoldsUnspelled, IsFound, MayBeOpen}
 use Rattle.manifest_lints.specs.Missed.{MissesNone}
 use Rattle.manifest_lints.specs.Sames.{HasSame, HasEquivalent, NamesRightly}
@@ -109,10 +109,10 @@ module _ (k : Known) (ds : List DeclaredEntry) (r : ReadKey) (key : KnownKey) (k
     asked_is : sorted_by key.predicates.items ≡ sorted_in ds (condition_of p)
     asked_is = known.predicates ∙ ap (sorted_of_spelled ds) is
 
-    found : Found
+    found : CheckedKey
     found = record { key = key; answers = a }
 
-    of_spelled : (c : Code) → Holds k ds es (entry_read r) (condition_of p) a.is_open c (found_codes found c)
+    of_spelled : (c : Code) → Holds k ds es (entry_read r) (condition_of p) a.is_open c (applicable_codes found c)
     unfolding found
     of_spelled code.Refused = ap is_refused (spelled_is ∙ is)
     of_spelled code.NoTable = tables_are
@@ -134,7 +134,7 @@ module _ (k : Known) (ds : List DeclaredEntry) (r : ReadKey) (key : KnownKey) (k
         && not (bytes_eq ((known.canonical ∙ ap print_spelled is) i) ((ap (λ z. z.text.now) known.read) i)))
 
     pub found_spelled : IsRead r
-        → IsFound k ds es ns (entry_read r) (found_codes (record { key = key; answers = a })) a.earlier a.is_open
+        → IsFound k ds es ns (entry_read r) (applicable_codes (record { key = key; answers = a })) a.earlier a.is_open
     unfolding found
     found_spelled read = inl (record {
       condition = condition_of p;
@@ -147,13 +147,13 @@ module _ (k : Known) (ds : List DeclaredEntry) (r : ReadKey) (key : KnownKey) (k
     })
 
   module _ (es : List Entry) (ns : List ℕ) (s : Spelled) (is : r.spelled ≡ s) (none : is_condition s ≡ false) where
-    unspelled : Found
+    unspelled : CheckedKey
     unspelled = record { key = key; answers = NONE }
 
     none_asked : sorted_by key.predicates.items ≡ []
     none_asked = known.predicates ∙ ap (sorted_of_spelled ds) is ∙ nothing_asked ds s none
 
-    of_unspelled : (c : Code) → HoldsUnspelled (is_refused s) (entry_read r) c (found_codes unspelled c)
+    of_unspelled : (c : Code) → HoldsUnspelled (is_refused s) (entry_read r) c (applicable_codes unspelled c)
     unfolding unspelled
     of_unspelled code.Refused = ap is_refused (spelled_is ∙ is)
     of_unspelled code.NoTable = tables_are
@@ -176,7 +176,7 @@ module _ (k : Known) (ds : List DeclaredEntry) (r : ReadKey) (key : KnownKey) (k
         (ap is_condition (spelled_is ∙ is) ∙ none)
 
     pub found_unspelled : IsRead r
-        → IsFound k ds es ns (entry_read r) (found_codes (record { key = key; answers = NONE })) NONE.earlier
+        → IsFound k ds es ns (entry_read r) (applicable_codes (record { key = key; answers = NONE })) NONE.earlier
         NONE.is_open
     unfolding unspelled
     found_unspelled read = inr (record {
