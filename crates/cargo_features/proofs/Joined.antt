@@ -16,7 +16,7 @@ use Rattle.package_graphs.specs.declared.packages.Side.TheVariants.{Target, Host
 use Rattle.cargo_features.specs.Deriving.{given, follows}
 use Rattle.cargo_features.proofs.Following.{held_through}
 use Rattle.cargo_features.specs.Claims.{holds_at}
-use Rattle.cargo_features.specs.Ways.{way, is_counted, counts_kind, begins_on}
+use Rattle.cargo_features.specs.Destinations.{destination, is_counted, counts_kind, begins_on}
 use Rattle.cargo_features.specs.Steps.{one, both, when, at_each, to_feature, gate, is_first_side, root_steps}
 use Rattle.cargo_features.specs.Steps.{active_steps}
 use Rattle.cargo_features.specs.Steps.{used_steps, dependency_steps, strong_at, weak_at, named_steps, member_steps}
@@ -248,7 +248,7 @@ module _ (followed : Kinds) (host : KnownTarget) (packages : List Package) (k : 
     used_matched : (i : ℕ) (d : Dependency) (y : Step) → Contains (used_steps Two packages At unit i d) y
         → Matches (used_steps One packages At unit i d) y
     used_matched i d y is =
-        let w = way packages s d in
+        let w = destination packages s d in
         let is_on = is_followed followed unit.is_root d.kind in
         let it = both (claim.Used p s) (gate At i d (claim.Used p s)) (claim.Used d.to w.side) w.condition in
         let it_1 = both (claim.Used p s) (gate There i d (claim.Used p s)) (claim.Used d.to w.side) w.condition in

@@ -14,14 +14,14 @@ use Rattle.package_graphs.specs.declared.packages.Side.TheVariants.{Target, Host
 use Rattle.cargo_features.specs.Deriving.{given, follows}
 use Rattle.cargo_features.proofs.Following.{held_through}
 use Rattle.cargo_features.specs.Requests.{asking, AsksMore, AskMore}
-use Rattle.cargo_features.specs.Ways.{condition, way, is_macro, feature_side, is_counted, begins_on}
+use Rattle.cargo_features.specs.Destinations.{condition, destination, is_macro, feature_side, is_counted, begins_on}
 use Rattle.cargo_features.specs.Steps.{one, both, when, at_each, to_feature, gate, is_first_side, root_steps}
 use Rattle.cargo_features.specs.Steps.{active_steps, used_steps, dependency_steps, strong_at, weak_at, named_steps}
 use Rattle.cargo_features.specs.Steps.{member_steps, feature_steps, all_features, steps_of, steps_on_both, all_steps}
 use Rattle.cargo_features.specs.Steps.{turns_on}
 use Rattle.cargo_features.specs.Holding.{is_known, feature_count, dependency_count, LeadsTo, Holds}
 use Rattle.cargo_features.specs.declared.build.Build.{Build}
-use Rattle.cargo_features.specs.declared.build.Way.{Way}
+use Rattle.cargo_features.specs.declared.build.Destination.{Destination}
 use Rattle.cargo_features.specs.declared.claims.Claim.{Claim}
 use Rattle.cargo_features.specs.declared.claims.Claim.TheVariants as claim
 use Rattle.cargo_features.specs.declared.claims.Condition.{Condition}
@@ -64,9 +64,9 @@ module _ (build : Build) (packages others : List Package) (more : AskMore packag
       ap (λ (ms : List Bool). slice_index_or ms p false)
       (mapped (λ (u : Package). u.is_macro) (λ u requested. refl) packages others more)
 
-  way_same : (s : Side) (d : Dependency) → way packages s d ≡ way others s d
-  way_same s d =
-      ap {B = Way} (λ (m : Bool). record {
+  destination_same : (s : Side) (d : Dependency) → destination packages s d ≡ destination others s d
+  destination_same s d =
+      ap {B = Destination} (λ (m : Bool). record {
         side = side (is_of_host s d.kind || m);
         condition = condition (is_of_host s d.kind) d.holds;
       }) (macro_same d.to)
@@ -83,8 +83,8 @@ module _ (build : Build) (packages others : List Package) (more : AskMore packag
       (mapped (λ (u : Package). length u.dependencies.items) (λ u requested. refl) packages others more) h
 
   module _ (at : Place) (unit : Package) where
-    -- the steps by the way of a dependency
-    abbrev active_by : ℕ → Dependency → Way → List Step
+    -- the steps by the destination of a dependency
+    abbrev active_by : ℕ → Dependency → Destination → List Step
     active_by i d w =
         let c = cond build.by_target w.condition Always in
         let on : Place = record { index = d.to; side = feature_side build w.side } in
@@ -94,9 +94,9 @@ module _ (build : Build) (packages others : List Package) (more : AskMore packag
 
     active_same : (i : ℕ) (d : Dependency)
         → active_steps build packages at unit i d ≡ active_steps build others at unit i d
-    active_same i d = ap (λ (w : Way). active_by i d w) (way_same at.side d)
+    active_same i d = ap (λ (w : Destination). active_by i d w) (destination_same at.side d)
 
-    abbrev used_by : ℕ → Dependency → Way → List Step
+    abbrev used_by : ℕ → Dependency → Destination → List Step
     used_by i d w =
         when (is_followed build.kinds unit.is_root d.kind)
         (both (claim.Used at.index at.side)
@@ -105,9 +105,9 @@ module _ (build : Build) (packages others : List Package) (more : AskMore packag
 
     used_same : (i : ℕ) (d : Dependency)
         → used_steps build packages at unit i d ≡ used_steps build others at unit i d
-    used_same i d = ap (λ (w : Way). used_by i d w) (way_same at.side d)
+    used_same i d = ap (λ (w : Destination). used_by i d w) (destination_same at.side d)
 
-    abbrev strong_by : Claim → ℕ → ℕ → Dependency → Way → List Step
+    abbrev strong_by : Claim → ℕ → ℕ → Dependency → Destination → List Step
     strong_by from i g d w =
         let c = cond build.by_target w.condition Always in
         let on : Place = record { index = d.to; side = feature_side build w.side } in
@@ -118,9 +118,9 @@ module _ (build : Build) (packages others : List Package) (more : AskMore packag
     strong_same : (from : Claim) (i g : ℕ) (o : Option Dependency)
         → strong_at build packages at unit from i g o ≡ strong_at build others at unit from i g o
     strong_same from i g None = refl
-    strong_same from i g (Some d) = ap (λ (w : Way). strong_by from i g d w) (way_same at.side d)
+    strong_same from i g (Some d) = ap (λ (w : Destination). strong_by from i g d w) (destination_same at.side d)
 
-    abbrev weak_by : Claim → ℕ → ℕ → Dependency → Way → List Step
+    abbrev weak_by : Claim → ℕ → ℕ → Dependency → Destination → List Step
     weak_by from i g d w =
         when (is_counted build unit d)
         (both from (gate at i d from) (claim.Feature d.to (feature_side build w.side) g)
@@ -129,7 +129,7 @@ module _ (build : Build) (packages others : List Package) (more : AskMore packag
     weak_same : (from : Claim) (i g : ℕ) (o : Option Dependency)
         → weak_at build packages at unit from i g o ≡ weak_at build others at unit from i g o
     weak_same from i g None = refl
-    weak_same from i g (Some d) = ap (λ (w : Way). weak_by from i g d w) (way_same at.side d)
+    weak_same from i g (Some d) = ap (λ (w : Destination). weak_by from i g d w) (destination_same at.side d)
 
     member_same : (from : Claim) (m : Member)
         → member_steps build packages at unit from m ≡ member_steps build others at unit from m

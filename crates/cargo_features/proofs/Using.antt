@@ -10,7 +10,7 @@ use Rattle.package_graphs.specs.declared.packages.Side.{Side}
 use Rattle.package_graphs.specs.declared.packages.Side.TheVariants.{Target, Host}
 use Rattle.package_graphs.proofs.Followed.{same_from, same_to, from_side}
 use Rattle.cargo_features.specs.Resolved.{is_using, IsUsing}
-use Rattle.cargo_features.specs.Ways.{way}
+use Rattle.cargo_features.specs.Destinations.{destination}
 use Rattle.cargo_features.specs.declared.packages.Dependency.{Dependency}
 use Rattle.cargo_features.specs.declared.packages.Package.{Package}
 use Rattle.cargo_features.specs.declared.resolved.Resolved.{Resolved}
@@ -26,12 +26,12 @@ module _ (r : Resolved) (p i : ℕ) (to : Side) (k : ℕ) (unit : Package)
     (declared : slice_get unit.dependencies.items i ≡ Some d) where
   -- true if the package uses the dependency from this side, and it leads to the other
   abbrev pub uses_from : Side → Bool
-  uses_from from = is_same (way r.packages.items from d).side to && is_using r p from i d k
+  uses_from from = is_same (destination r.packages.items from d).side to && is_using r p from i d k
 
   on_side : IsTrue (is_followed r.build.kinds unit.is_root d.kind) → (from : Side) → uses_from from ≡ true
       → IsUsing r p i to k
   on_side followed from h =
-      let parts = and_parts (is_same (way r.packages.items from d).side to) (is_using r p from i d k) h in
+      let parts = and_parts (is_same (destination r.packages.items from d).side to) (is_using r p from i d k) h in
       record {
         unit = unit;
         there = there;
@@ -39,7 +39,7 @@ module _ (r : Resolved) (p i : ℕ) (to : Side) (k : ℕ) (unit : Package)
         declared = declared;
         followed = followed;
         from = from;
-        leads = same_from (way r.packages.items from d).side to parts.0;
+        leads = same_from (destination r.packages.items from d).side to parts.0;
         uses = parts.1;
       }
 
@@ -56,7 +56,9 @@ module _ (r : Resolved) (p i : ℕ) (to : Side) (k : ℕ) (unit : Package)
       let found = subst (λ (u : Package). slice_get u.dependencies.items i ≡ Some d) (sym same_unit) declared in
       let same = same_Some h.dependency d (sym h.declared ∙ found) in
       from_side uses_from h.from
-      (subst (λ (x : Dependency). (is_same (way r.packages.items h.from x).side to && is_using r p h.from i x k) ≡ true)
+      (subst (λ (x : Dependency). (is_same (destination r.packages.items h.from x).side to
+      && is_using r p h.from i x k) ≡ true)
       same
-      (and_from (is_same (way r.packages.items h.from h.dependency).side to) (is_using r p h.from i h.dependency k)
-      (same_to (way r.packages.items h.from h.dependency).side to h.leads) h.uses))
+      (and_from (is_same (destination r.packages.items h.from h.dependency).side to)
+      (is_using r p h.from i h.dependency k)
+      (same_to (destination r.packages.items h.from h.dependency).side to h.leads) h.uses))

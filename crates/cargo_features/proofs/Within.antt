@@ -18,7 +18,7 @@ use Rattle.package_graphs.specs.declared.packages.Side.{Side}
 use Rattle.package_graphs.specs.declared.packages.Side.TheVariants.{Target, Host}
 use Rattle.cargo_features.proofs.Following.{held_through}
 use Rattle.cargo_features.specs.Claims.{holds_at}
-use Rattle.cargo_features.specs.Ways.{condition, way, is_macro, is_counted}
+use Rattle.cargo_features.specs.Destinations.{condition, destination, is_macro, is_counted}
 use Rattle.cargo_features.specs.Steps.{one, both, when, at_each, to_feature, gate, is_first_side, root_steps}
 use Rattle.cargo_features.specs.Steps.{active_steps}
 use Rattle.cargo_features.specs.Steps.{used_steps, dependency_steps, strong_at, weak_at, named_steps, member_steps}
@@ -126,7 +126,7 @@ module _ (build : Build) (packages : List Package) (graph : List units.Package) 
       let root = ap (λ (r : Bool). is_followed build.kinds r has.edge.kind) is.root in
       let kind = ap (λ (x : Kind). is_followed build.kinds unit.is_root x) has.kind in
       let requested = ap (λ (x : Kind). graphs.is_of_host at.side x) has.kind in
-      goes_on (at.index, at.side) (d.to, (way packages at.side d).side) here (record {
+      goes_on (at.index, at.side) (d.to, (destination packages at.side d).side) here (record {
         depends = record {
           dependency = has.edge;
           begins = has.begins;

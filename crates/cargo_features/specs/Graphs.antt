@@ -4,7 +4,7 @@ use Rattle.std.specs.List.{slice_index_or}
 use Rattle.package_graphs.specs.Packages as graphs
 use Rattle.package_graphs.specs.declared.packages.Dependency as edges
 use Rattle.package_graphs.specs.declared.packages.Package as units
-use Rattle.cargo_features.specs.Ways.{is_macro}
+use Rattle.cargo_features.specs.Destinations.{is_macro}
 use Rattle.known_targets.specs.declared.known.KnownTarget.{KnownTarget}
 use Rattle.package_graphs.specs.declared.packages.Kinds.{Kinds}
 use Rattle.package_graphs.specs.declared.packages.Side.TheVariants.{Target}

@@ -1,7 +1,7 @@
 pub mod Deriving
 pub mod Derivations
 pub mod Claims
-pub mod Ways
+pub mod Destinations
 pub mod Steps
 pub mod Holding
 pub mod Inside

@@ -4,7 +4,7 @@ use Rattle.package_graphs.specs.Kinds.{is_followed}
 use Rattle.package_graphs.specs.declared.packages.Side.{Side}
 use Rattle.cargo_features.specs.Claims.{holds_at}
 use Rattle.cargo_features.specs.Steps.{gate}
-use Rattle.cargo_features.specs.Ways.{way, feature_side}
+use Rattle.cargo_features.specs.Destinations.{destination, feature_side}
 use Rattle.cargo_features.specs.Inside.Numbered.{AreNumbers}
 use Rattle.cargo_features.specs.Inside.Exact.{has}
 use Rattle.cargo_features.specs.declared.build.Build.{Build}
@@ -37,7 +37,7 @@ is_using resolved p from i d k =
     holds_in resolved (claim.Used p from) k
     && (holds_in resolved
     (gate (record { index = p; side = feature_side resolved.build from }) i d (claim.Used p from)) k
-    && holds_at resolved.build.host k (way resolved.packages.items from d).condition)
+    && holds_at resolved.build.host k (destination resolved.packages.items from d).condition)
 
 -- by the result, the package p uses its dependency at the index i, and that leads to a package built for the side `to`
 pub record IsUsing (resolved : Resolved) (p i : ℕ) (to : Side) (k : ℕ) : Type 0 where
@@ -47,7 +47,7 @@ pub record IsUsing (resolved : Resolved) (p i : ℕ) (to : Side) (k : ℕ) : Typ
   pub declared : slice_get unit.dependencies.items i ≡ Some dependency
   pub followed : IsTrue (is_followed resolved.build.kinds unit.is_root dependency.kind)
   pub from : Side
-  pub leads : (way resolved.packages.items from dependency).side ≡ to
+  pub leads : (destination resolved.packages.items from dependency).side ≡ to
   pub uses : IsTrue (is_using resolved p from i dependency k)
 
 -- on one side or the other

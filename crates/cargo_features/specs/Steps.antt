@@ -6,9 +6,9 @@ use Rattle.std.specs.Prelude.{Some, None, flat_map, slice_get}
 use Rattle.package_graphs.specs.Kinds.{is_followed}
 use Rattle.package_graphs.specs.declared.packages.Side.{Side}
 use Rattle.package_graphs.specs.declared.packages.Side.TheVariants.{Target, Host}
-use Rattle.cargo_features.specs.Ways.{way, feature_way, feature_side, is_counted, begins_on}
+use Rattle.cargo_features.specs.Destinations.{destination, feature_destination, feature_side, is_counted, begins_on}
 use Rattle.cargo_features.specs.declared.build.Build.{Build}
-use Rattle.cargo_features.specs.declared.build.Way.{Way}
+use Rattle.cargo_features.specs.declared.build.Destination.{Destination}
 use Rattle.cargo_features.specs.declared.claims.Claim.{Claim}
 use Rattle.cargo_features.specs.declared.claims.Claim.TheVariants as claim
 use Rattle.cargo_features.specs.declared.claims.Condition.{Condition}
@@ -62,10 +62,10 @@ root_steps build at unit =
 
 -- where it leads for the feature resolver
 abbrev pub led_to : Build → List Package → Place → Dependency → Place
-led_to build packages at d = record { index = d.to; side = (feature_way build packages at.side d).side }
+led_to build packages at d = record { index = d.to; side = (feature_destination build packages at.side d).side }
 
 abbrev pub led_where : Build → List Package → Place → Dependency → Condition
-led_where build packages at d = (feature_way build packages at.side d).condition
+led_where build packages at d = (feature_destination build packages at.side d).condition
 
 -- it makes its package active, with the features that it requests
 abbrev pub active_steps : Build → List Package → Place → Package → ℕ → Dependency → List Step
@@ -83,8 +83,8 @@ used_steps build packages at unit i d =
     when (is_followed build.kinds unit.is_root d.kind)
     (both (claim.Used at.index at.side)
     (gate (record { index = at.index; side = feature_side build at.side }) i d (claim.Used at.index at.side))
-    (claim.Used d.to (way packages at.side d).side)
-    (way packages at.side d).condition)
+    (claim.Used d.to (destination packages at.side d).side)
+    (destination packages at.side d).condition)
 
 abbrev pub dependency_steps : Build → List Package → Place → Package → List Step
 dependency_steps build packages at unit =

@@ -2,7 +2,8 @@
 
 ghost use Rattle.std.specs.Prelude.{◌≡◌};
 ghost use Rattle.cargo_features.specs.Graphs.{resolver_1, resolver_2};
-ghost use Rattle.cargo_features.specs.Ways.{is_macro, way, feature_way, feature_side, is_counted, begins_on};
+ghost use Rattle.cargo_features.specs.Destinations.{is_macro, destination, feature_destination, feature_side};
+ghost use Rattle.cargo_features.specs.Destinations.{is_counted, begins_on};
 
 use crate::claims::Condition;
 use crate::packages::{Dependency, Package};
@@ -25,7 +26,7 @@ pub struct Build {
 
 /// The end of a dependency: the side of its package, and the condition under which it leads there.
 #[derive(Clone, Copy, Drop)]
-pub struct Way {
+pub struct Destination {
     pub side: Side,
     pub condition: Condition,
 }
@@ -71,12 +72,17 @@ impl Build {
     }
 
     /// Returns where a dependency leads from a package on a side that uses it.
-    pub fn way(self, packages: &[Package], from: Side, dependency: &Dependency) -> Way
-        ensures { result ≡ way packages.now from dependency.now }
+    pub fn destination(
+        self,
+        packages: &[Package],
+        from: Side,
+        dependency: &Dependency,
+    ) -> Destination
+        ensures { result ≡ destination packages.now from dependency.now }
     {
-        Way {
+        Destination {
             side: from.after(dependency.kind, is_macro(packages, dependency.to)),
-            condition: if from.asks_host(dependency.kind) {
+            condition: if from.is_evaluated_on_host(dependency.kind) {
                 Condition::OfHost(dependency.holds)
             } else {
                 Condition::OfTarget(dependency.holds)
@@ -85,14 +91,19 @@ impl Build {
     }
 
     /// Returns where a dependency leads for the feature resolver.
-    pub fn feature_way(self, packages: &[Package], from: Side, dependency: &Dependency) -> Way
-        ensures { result ≡ feature_way self packages.now from dependency.now }
+    pub fn feature_destination(
+        self,
+        packages: &[Package],
+        from: Side,
+        dependency: &Dependency,
+    ) -> Destination
+        ensures { result ≡ feature_destination self packages.now from dependency.now }
     {
-        let way = self.way(packages, from, dependency);
-        Way {
-            side: self.feature_side(way.side),
+        let end = self.destination(packages, from, dependency);
+        Destination {
+            side: self.feature_side(end.side),
             condition: if self.by_target {
-                way.condition
+                end.condition
             } else {
                 Condition::Always
             },
@@ -107,7 +118,7 @@ impl Build {
     }
 
     /// Returns whether the feature resolver considers a dependency of a package.
-    pub fn counts(self, unit: &Package, dependency: &Dependency) -> bool
+    pub fn considers(self, unit: &Package, dependency: &Dependency) -> bool
         ensures { result ≡ is_counted self unit.now dependency.now }
     {
         match dependency.kind {

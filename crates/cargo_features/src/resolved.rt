@@ -8,7 +8,7 @@ ghost use Rattle.cargo_features.specs.Holding.{is_known, Holds, IsUsed};
 ghost use Rattle.cargo_features.specs.Steps.{all_steps, steps_on_both};
 ghost use Rattle.cargo_features.specs.Inside.Numbered.{AreNumbers, IsNumbered, AreNumbered};
 ghost use Rattle.cargo_features.specs.Inside.Exact.{has, is_used, IsExact};
-ghost use Rattle.cargo_features.specs.Ways.{way};
+ghost use Rattle.cargo_features.specs.Destinations.{destination};
 ghost use Rattle.cargo_features.specs.Resolved.{holds_in, is_built_with, is_using, IsResolved, IsUsing, IsUsingAny};
 ghost use Rattle.package_graphs.specs.Packages.{is_same};
 ghost use Rattle.cargo_features.specs.declared.claims.Claim.{Claim};
@@ -245,8 +245,8 @@ impl Resolved {
             index,
             side: self.build.feature_side(from),
         };
-        let way = self.build.way(&self.packages, from, dependency);
-        let targets = way.condition.targets(self.build.host);
+        let end = self.build.destination(&self.packages, from, dependency);
+        let targets = end.condition.targets(self.build.host);
         let on = self.at(resolved.gate(place, dependency, used));
         self.at(used).intersection(on.intersection(targets))
     }
@@ -262,11 +262,11 @@ impl Resolved {
         to: Side,
     ) -> TargetSet
         ensures { AreNumbers self.now.packages.items self.now.found.numbers → (k : ℕ) → k < COUNT
-            → is_member result k ≡ (is_same (way self.now.packages.items from dependency.now).side to
+            → is_member result k ≡ (is_same (destination self.now.packages.items from dependency.now).side to
             && is_using self.now index from place dependency.now k) }
     {
-        let way = self.build.way(&self.packages, from, dependency);
-        if way.side.is_same(to) {
+        let end = self.build.destination(&self.packages, from, dependency);
+        if end.side.is_same(to) {
             self.using_from(index, from, place, dependency)
         } else {
             TargetSet::none()

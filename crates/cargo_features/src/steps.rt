@@ -96,16 +96,16 @@ impl Build {
         ensures { OnOk result (steps.new.items
             ≡ steps.old.items ++ active_steps self packages.now at unit.now place dependency.now) }
     {
-        let counts = self.counts(unit, dependency);
+        let counts = self.considers(unit, dependency);
         let from = at.gate(place, dependency, Claim::Active(at.index, at.side));
-        let way = self.feature_way(packages, at.side, dependency);
-        let active = Claim::Active(dependency.to, way.side);
-        add(steps, counts, Step::from_one(from, active, way.condition))?;
+        let end = self.feature_destination(packages, at.side, dependency);
+        let active = Claim::Active(dependency.to, end.side);
+        add(steps, counts, Step::from_one(from, active, end.condition))?;
         let on = Place {
             index: dependency.to,
-            side: way.side,
+            side: end.side,
         };
-        add_features(steps, counts, from, on, &dependency.features, way.condition)?;
+        add_features(steps, counts, from, on, &dependency.features, end.condition)?;
         Ok(())
     }
 
@@ -128,12 +128,12 @@ impl Build {
             index: at.index,
             side: self.feature_side(at.side),
         };
-        let way = self.way(packages, at.side, dependency);
+        let end = self.destination(packages, at.side, dependency);
         let step = Step {
             first: used,
             second: resolved.gate(place, dependency, used),
-            to: Claim::Used(dependency.to, way.side),
-            condition: way.condition,
+            to: Claim::Used(dependency.to, end.side),
+            condition: end.condition,
         };
         add(steps, is_followed, step)
     }
@@ -142,7 +142,7 @@ impl Build {
     fn turns_on(self, unit: &Package, dependency: &Dependency) -> bool
         ensures { result ≡ turns_on self unit.now dependency.now }
     {
-        self.counts(unit, dependency) && dependency.is_optional
+        self.considers(unit, dependency) && dependency.is_optional
     }
 
     /// Appends the steps of `d/g` in the list of a feature. It turns on the feature `g` of the dependency's package
@@ -161,14 +161,14 @@ impl Build {
         ensures { OnOk result (steps.new.items ≡ steps.old.items
             ++ strong_at self packages.now at unit.now from place feature (Some dependency.now)) }
     {
-        let counts = self.counts(unit, dependency);
-        let way = self.feature_way(packages, at.side, dependency);
-        let theirs = Claim::Feature(dependency.to, way.side, feature);
-        add(steps, counts, Step::from_one(from, theirs, way.condition))?;
+        let counts = self.considers(unit, dependency);
+        let end = self.feature_destination(packages, at.side, dependency);
+        let theirs = Claim::Feature(dependency.to, end.side, feature);
+        add(steps, counts, Step::from_one(from, theirs, end.condition))?;
         let turns_on = self.turns_on(unit, dependency);
         let on = Claim::Dependency(at.index, at.side, place);
-        add(steps, turns_on, Step::from_one(from, on, way.condition))?;
-        add_named(steps, turns_on, from, at, dependency.named, way.condition)?;
+        add(steps, turns_on, Step::from_one(from, on, end.condition))?;
+        add_named(steps, turns_on, from, at, dependency.named, end.condition)?;
         Ok(())
     }
 
@@ -210,13 +210,13 @@ impl Build {
         ensures { OnOk result (steps.new.items ≡ steps.old.items
             ++ weak_at self packages.now at unit.now from place feature (Some dependency.now)) }
     {
-        let counts = self.counts(unit, dependency);
-        let way = self.feature_way(packages, at.side, dependency);
+        let counts = self.considers(unit, dependency);
+        let end = self.feature_destination(packages, at.side, dependency);
         let step = Step {
             first: from,
             second: at.gate(place, dependency, from),
-            to: Claim::Feature(dependency.to, way.side, feature),
-            condition: way.condition,
+            to: Claim::Feature(dependency.to, end.side, feature),
+            condition: end.condition,
         };
         add(steps, counts, step)?;
         Ok(())

@@ -26,7 +26,7 @@ fn holds_from(side: Side, dependency: &Dependency, host: Option<KnownTarget>) ->
     let Some(host) = host else {
         return dependency.holds;
     };
-    if !side.asks_host(dependency.kind) {
+    if !side.is_evaluated_on_host(dependency.kind) {
         dependency.holds
     } else if dependency.holds.contains(host) {
         TargetSet::all()
@@ -44,9 +44,9 @@ pub fn using_from(
     from: Side,
 ) -> TargetSet {
     let build = resolved.build();
-    let way = build.way(resolved.packages(), from, dependency);
+    let end = build.destination(resolved.packages(), from, dependency);
     let used = resolved.at(Claim::Used(index, from));
-    let targets = used.intersection(way.condition.targets(build.host));
+    let targets = used.intersection(end.condition.targets(build.host));
     if !dependency.is_optional {
         return targets;
     }

@@ -6,7 +6,7 @@ use Rattle.known_targets.specs.declared.known.KnownTarget.{KnownTarget}
 use Rattle.package_graphs.specs.Reaching.{starts, goes_on}
 use Rattle.package_graphs.specs.Packages.{is_root, is_macro, dependencies, LeadsTo, IsThere, Sided, IsForTarget}
 use Rattle.package_graphs.specs.Packages.{StartsOn, LeadsOn}
-use Rattle.package_graphs.specs.Packages.{IsThereOn, IsPlain, asked_at, side_after, side}
+use Rattle.package_graphs.specs.Packages.{IsThereOn, IsPlain, evaluated_at, side_after, side}
 use Rattle.package_graphs.specs.declared.packages.Kind.{Kind}
 use Rattle.package_graphs.specs.declared.packages.Kind.TheVariants.{Normal}
 use Rattle.package_graphs.specs.declared.packages.Kinds.{Kinds}
@@ -43,9 +43,9 @@ module _ (packages : List Package) (kinds : Kinds) (k : ℕ) where
       none_after p
 
   module _ (host : KnownTarget) (plain : IsPlain packages) where
-    asked_here : (p : ℕ) (d : Dependency) → Contains (dependencies packages p) d
-        → asked_at (Some host) k Target d.kind ≡ k
-    asked_here p d is = ap (λ (kind : Kind). asked_at (Some host) k Target kind) (plain.normal p d is)
+    evaluated_here : (p : ℕ) (d : Dependency) → Contains (dependencies packages p) d
+        → evaluated_at (Some host) k Target d.kind ≡ k
+    evaluated_here p d is = ap (λ (kind : Kind). evaluated_at (Some host) k Target kind) (plain.normal p d is)
 
     after_here : (p r : ℕ) (d : Dependency) → Contains (dependencies packages p) d
         → side_after Target d.kind (is_macro packages r) ≡ Target
@@ -59,8 +59,8 @@ module _ (packages : List Package) (kinds : Kinds) (k : ℕ) where
         (λ m is. (starts m.0 is.root, is.on ∙ ap side (plain.no_macro m.0)))
         (λ m r here leads.
         let d = leads.depends.dependency in
-        let at : asked_at (Some host) k m.1 d.kind ≡ k =
-        ap (λ (s : Side). asked_at (Some host) k s d.kind) here.1 ∙ asked_here m.0 d leads.depends.begins in (
+        let at : evaluated_at (Some host) k m.1 d.kind ≡ k =
+        ap (λ (s : Side). evaluated_at (Some host) k s d.kind) here.1 ∙ evaluated_here m.0 d leads.depends.begins in (
           goes_on m.0 r.0 here.0 (record {
             depends = leads.depends;
             holds = subst (λ (x : ℕ). IsTrue (is_member d.holds x)) at leads.holds;
@@ -81,7 +81,7 @@ module _ (packages : List Package) (kinds : Kinds) (k : ℕ) where
         goes_on (p, Target) (r, Target) here (record {
           depends = leads.depends;
           holds = subst (λ (x : ℕ). IsTrue (is_member d.holds x))
-              (sym (asked_here p d leads.depends.begins)) leads.holds;
+              (sym (evaluated_here p d leads.depends.begins)) leads.holds;
           on = sym (after_here p r d leads.depends.begins);
         }))
         n.0 alone.0 in

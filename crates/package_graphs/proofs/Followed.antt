@@ -6,7 +6,7 @@ use Rattle.known_targets.specs.Sets.{is_member}
 use Rattle.known_targets.specs.declared.known.KnownTarget.{KnownTarget}
 use Rattle.package_graphs.specs.Following.{IsFollowedTo}
 use Rattle.package_graphs.specs.Kinds.{is_followed}
-use Rattle.package_graphs.specs.Packages.{is_root, is_macro, is_on, is_same, asked_at, side_after}
+use Rattle.package_graphs.specs.Packages.{is_root, is_macro, is_on, is_same, evaluated_at, side_after}
 use Rattle.package_graphs.specs.declared.package_sets.PackageSets.{PackageSets}
 use Rattle.package_graphs.specs.declared.packages.Dependency.{Dependency}
 use Rattle.package_graphs.specs.declared.packages.Kinds.{Kinds}
@@ -33,7 +33,7 @@ from_side at Host h = or_right (at Target) (at Host) h
 abbrev pub leads_with : PackageSets → Option KnownTarget → Bool → ℕ → Dependency → Side → ℕ → Side → Bool
 leads_with sets host is_macro from d to k on =
     is_same (side_after on d.kind is_macro) to
-    && (is_on sets from on k && is_member d.holds (asked_at host k on d.kind))
+    && (is_on sets from on k && is_member d.holds (evaluated_at host k on d.kind))
 
 module _ (sets : PackageSets) (packages : List Package) (kinds : Kinds) (host : Option KnownTarget) (from : ℕ)
     (d : Dependency) (to : Side) (k : ℕ) where

@@ -7,7 +7,7 @@ use Rattle.known_targets.specs.declared.known.KnownTarget.{KnownTarget}
 use Rattle.package_graphs.specs.Reaching.{starts, goes_on}
 use Rattle.package_graphs.specs.Kinds.{is_followed}
 use Rattle.package_graphs.specs.Packages.{is_root, is_macro, is_of_host, is_build, is_same, shipped}
-use Rattle.package_graphs.specs.Packages.{side, side_after, asked_at}
+use Rattle.package_graphs.specs.Packages.{side, side_after, evaluated_at}
 use Rattle.package_graphs.specs.Packages.{Sided, IsForTarget, IsForHost, StartsOn, LeadsOn, IsThereOn}
 use Rattle.package_graphs.specs.declared.packages.Kind.{Kind}
 use Rattle.package_graphs.specs.declared.packages.Kind.TheVariants.{Normal, Build, Dev}
@@ -25,9 +25,9 @@ of_build Target Normal h = absurd (false≢true h)
 of_build Target Build h = refl
 of_build Target Dev h = absurd (false≢true h)
 
-pub after_asked : (from : Side) (kind : Kind) (is_macro : Bool) → is_of_host from kind ≡ true
+pub after_evaluated : (from : Side) (kind : Kind) (is_macro : Bool) → is_of_host from kind ≡ true
     → side_after from kind is_macro ≡ Host
-after_asked from kind is_macro h = ap (λ (b : Bool). side (b || is_macro)) h
+after_evaluated from kind is_macro h = ap (λ (b : Bool). side (b || is_macro)) h
 
 pub after_host : (from : Side) (kind : Kind) (is_macro : Bool) → from ≡ Host → side_after from kind is_macro ≡ Host
 after_host from kind is_macro h = ap (λ (s : Side). side_after s kind is_macro) h
@@ -57,12 +57,12 @@ same_shipped kinds root Normal h = refl
 same_shipped kinds root Build h = absurd (false≢true (sym h))
 same_shipped kinds root Dev h = refl
 
-asked_there : (host : Option KnownTarget) (k : ℕ) (kind : Kind) → is_build kind ≡ false
-    → asked_at host k Target kind ≡ k
-asked_there None k kind h = refl
-asked_there (Some host) k Normal h = refl
-asked_there (Some host) k Build h = absurd (false≢true (sym h))
-asked_there (Some host) k Dev h = refl
+evaluated_there : (host : Option KnownTarget) (k : ℕ) (kind : Kind) → is_build kind ≡ false
+    → evaluated_at host k Target kind ≡ k
+evaluated_there None k kind h = refl
+evaluated_there (Some host) k Normal h = refl
+evaluated_there (Some host) k Build h = absurd (false≢true (sym h))
+evaluated_there (Some host) k Dev h = refl
 
 module _ (packages : List Package) (kinds others : Kinds) (host other : Option KnownTarget) (k : ℕ)
     (same : (root : Bool) (kind : Kind) → is_build kind ≡ false
@@ -77,8 +77,8 @@ module _ (packages : List Package) (kinds others : Kinds) (host other : Option K
   shipped_on m n here leads target =
       let d = leads.depends.dependency in
       let s = ships m.1 d.kind (is_macro packages n.0) (sym leads.on ∙ target) in
-      let at : (h : Option KnownTarget) → asked_at h k m.1 d.kind ≡ k =
-      λ h. ap (λ (x : Side). asked_at h k x d.kind) s.on ∙ asked_there h k d.kind s.no_build in
+      let at : (h : Option KnownTarget) → evaluated_at h k m.1 d.kind ≡ k =
+      λ h. ap (λ (x : Side). evaluated_at h k x d.kind) s.on ∙ evaluated_there h k d.kind s.no_build in
       goes_on m n (here s.on) (record {
         depends = record {
           dependency = d;

@@ -3,7 +3,7 @@ use Rattle.std.specs.Prelude.{◌≡◌, ℕ, IsTrue, List, Option}
 use Rattle.known_targets.specs.Sets.{is_member}
 use Rattle.known_targets.specs.declared.known.KnownTarget.{KnownTarget}
 use Rattle.package_graphs.specs.Kinds.{is_followed}
-use Rattle.package_graphs.specs.Packages.{is_root, is_macro, is_on, asked_at, side_after}
+use Rattle.package_graphs.specs.Packages.{is_root, is_macro, is_on, evaluated_at, side_after}
 use Rattle.package_graphs.specs.declared.packages.Kinds.{Kinds}
 use Rattle.package_graphs.specs.declared.packages.Dependency.{Dependency}
 use Rattle.package_graphs.specs.declared.packages.Package.{Package}
@@ -17,7 +17,7 @@ pub record IsFollowedAt (sets : PackageSets) (packages : List Package) (kinds : 
   pub on : Side
   pub there : IsTrue (is_on sets from on k)
   pub followed : IsTrue (is_followed kinds (is_root packages from) d.kind)
-  pub holds : IsTrue (is_member d.holds (asked_at host k on d.kind))
+  pub holds : IsTrue (is_member d.holds (evaluated_at host k on d.kind))
 
 -- and it leads to a package that is built for the side
 pub record IsFollowedTo (sets : PackageSets) (packages : List Package) (kinds : Kinds) (host : Option KnownTarget)

@@ -102,9 +102,9 @@ side true = Host
 side false = Target
 
 -- the target for which a dependency is decided in a build for the target k; without a host it is k
-abbrev pub asked_at : Option KnownTarget → ℕ → Side → Kind → ℕ
-asked_at None k from kind = k
-asked_at (Some host) k from kind = cond (is_of_host from kind) (place host) k
+abbrev pub evaluated_at : Option KnownTarget → ℕ → Side → Kind → ℕ
+evaluated_at None k from kind = k
+evaluated_at (Some host) k from kind = cond (is_of_host from kind) (place host) k
 
 -- the side for which a package is built that a dependency leads to; a procedural macro is built for the host
 abbrev pub side_after : Side → Kind → Bool → Side
@@ -117,7 +117,7 @@ pub record StartsOn (packages : List Package) (n : Sided) : Type 0 where
 pub record LeadsOn (packages : List Package) (kinds : Kinds) (host : Option KnownTarget) (k : ℕ) (m n : Sided)
     : Type 0 where
   pub depends : DependsOn packages kinds m.0 n.0
-  pub holds : IsTrue (is_member depends.dependency.holds (asked_at host k m.1 depends.dependency.kind))
+  pub holds : IsTrue (is_member depends.dependency.holds (evaluated_at host k m.1 depends.dependency.kind))
   pub on : n.1 ≡ side_after m.1 depends.dependency.kind (is_macro packages n.0)
 
 -- a root is in the build on its side, and dependencies lead on, among packages that are built for the target or for the

@@ -4,7 +4,7 @@ use Rattle.std.specs.List.{slice_get}
 use Rattle.known_targets.specs.Sets.{is_member, place}
 use Rattle.known_targets.specs.declared.known.KnownTarget.{KnownTarget}
 use Rattle.package_graphs.specs.Kinds.{is_followed}
-use Rattle.package_graphs.specs.Packages.{is_root, is_macro, dependencies, Sided, asked_at, side_after, StartsOn}
+use Rattle.package_graphs.specs.Packages.{is_root, is_macro, dependencies, Sided, evaluated_at, side_after, StartsOn}
 use Rattle.package_graphs.specs.declared.packages.Kinds.{Kinds}
 use Rattle.package_graphs.specs.declared.packages.Dependency.{Dependency}
 use Rattle.package_graphs.specs.declared.packages.Package.{Package}
@@ -21,7 +21,7 @@ pub record LeadsBy (packages : List Package) (kinds : Kinds) (host : Option Know
     (m n : Sided) : Type 0 where
   pub ends : d.to ≡ n.0
   pub followed : IsTrue (is_followed kinds (is_root packages m.0) d.kind)
-  pub holds : IsTrue (is_member d.holds (asked_at host k m.1 d.kind))
+  pub holds : IsTrue (is_member d.holds (evaluated_at host k m.1 d.kind))
   pub on : n.1 ≡ side_after m.1 d.kind (is_macro packages n.0)
 
 -- the step goes along a dependency of m, to n

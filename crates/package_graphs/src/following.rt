@@ -3,7 +3,7 @@
 ghost use Rattle.std.specs.Prelude.{◌≡◌, ◌<◌, ◌↔◌, ◌&&◌, ℕ, IsTrue};
 ghost use Rattle.known_targets.specs.Sets.{is_member};
 ghost use Rattle.known_targets.specs.declared.table.TheConstants.{COUNT};
-ghost use Rattle.package_graphs.specs.Packages.{is_root, is_macro, is_on, is_same, asked_at, side_after};
+ghost use Rattle.package_graphs.specs.Packages.{is_root, is_macro, is_on, is_same, evaluated_at, side_after};
 ghost use Rattle.package_graphs.specs.Following.{IsFollowedAt, IsFollowedTo};
 ghost use Rattle.package_graphs.specs.Inside.Numbered.{IsQuestion};
 
@@ -76,7 +76,7 @@ impl PackageSets {
         requires { IsQuestion question.now }
         ensures { (k : ℕ) → k < COUNT → is_member result k
             ≡ (is_same (side_after on dependency.now.kind is_macro) to && (is_on self.now from on k
-            && is_member dependency.now.holds (asked_at question.now.host k on dependency.now.kind))) }
+            && is_member dependency.now.holds (evaluated_at question.now.host k on dependency.now.kind))) }
     {
         if on.after(dependency.kind, is_macro).is_same(to) {
             self.along(question, from, on, dependency)
@@ -97,7 +97,7 @@ impl PackageSets {
         requires { IsQuestion question.now }
         ensures { (k : ℕ) → k < COUNT → is_member result k
             ≡ (is_on self.now from side k
-            && is_member dependency.now.holds (asked_at question.now.host k side dependency.now.kind)) }
+            && is_member dependency.now.holds (evaluated_at question.now.host k side dependency.now.kind)) }
     {
         let holds = question.holds_by(side, dependency);
         self.on(from, side).intersection(holds)

@@ -43,7 +43,7 @@ pub fn roots_add_up()
 
 /// Without a host, a package is in the build, on one side or the other, exactly if it is by the conditions on the
 /// target alone.
-pub fn without_a_host_the_target_is_asked()
+pub fn without_a_host_the_target_decides()
     ensures { (packages : Packages) (kinds : KindSet) (k p : ℕ)
         → ((side : BuiltFor) × IsThereOn packages kinds None k (p, side)) ↔ IsThere packages kinds k p }
 {}

@@ -78,9 +78,9 @@ impl Side {
         }
     }
 
-    /// Returns whether a dependency of this kind, of a package on this side, is decided for the host: what the host
-    /// needs, and what a build script needs.
-    pub fn asks_host(self, kind: Kind) -> bool
+    /// Returns whether the condition of a dependency of this kind, of a package on this side, is evaluated on the host.
+    /// This is so for everything that the host or a build script needs.
+    pub fn is_evaluated_on_host(self, kind: Kind) -> bool
         ensures { result ≡ is_of_host self kind }
     {
         match self {
@@ -89,14 +89,14 @@ impl Side {
         }
     }
 
-    /// Returns the side for which a package is built that a dependency of this kind leads to, from a package on this
-    /// side. A procedural macro is built for the host.
+    /// Returns the side for which the package at the end of a dependency is built, given the kind of the dependency and
+    /// the side of the package that has it. A procedural macro is built for the host.
     pub fn after(self, kind: Kind, is_macro: bool) -> Side
-        // What is needed on the host, by a build script, or as a procedural macro is built for the host; other packages
-        // are built for the target.
+        // Everything that the host or a build script needs is built for the host, and so is a procedural macro. Other
+        // packages are built for the target.
         ensures { result ≡ side_after self kind is_macro }
     {
-        Side::new(self.asks_host(kind) || is_macro)
+        Side::new(self.is_evaluated_on_host(kind) || is_macro)
     }
 
     /// Returns whether both are the same side.

@@ -106,7 +106,7 @@ pub fn shortest_path_on(
     search.path_to(alloc, &spread, Some(side), index)
 }
 
-/// What a search for paths follows: the dependencies of these kinds whose conditions are true on a target.
+/// A search for paths, which follows the dependencies of these kinds whose conditions are true on a target.
 #[derive(Clone, Copy, Drop)]
 pub struct PathQuery {
     pub kinds: Kinds,
@@ -132,7 +132,7 @@ pub fn shortest_paths(
     query: PathQuery,
     to: &[usize],
 ) -> Result<Vec<PathTo>, AllocError>
-    // The steps of each path lead from a root to its package on the target, for the side if one is asked for, and no
+    // The steps of each path lead from a root to its package on the target, for the side if one is given, and no
     // fewer steps do. Each package of `to` has its path, in order, except for those to which no path leads.
     ensures { IfOk result (λ paths. AreShortestOf packages.now query to.now paths.items) }
 {

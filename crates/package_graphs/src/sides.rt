@@ -57,7 +57,7 @@ impl Question {
         match self.host {
             None => dependency.holds,
             Some(host) => {
-                if !from.asks_host(dependency.kind) {
+                if !from.is_evaluated_on_host(dependency.kind) {
                     dependency.holds
                 } else if dependency.holds.contains(host) {
                     self.always

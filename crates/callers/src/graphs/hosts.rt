@@ -53,7 +53,7 @@ fn sets(rt: &impl Abort, alloc: Global, host: Option<KnownTarget>) -> PackageSet
 }
 
 #[test]
-fn without_a_host_the_target_is_asked(rt: HostRuntime) {
+fn without_a_host_the_target_decides(rt: HostRuntime) {
     let alloc = rt.alloc();
     let sets = sets(&rt, alloc, None);
     assert_at(&rt, alloc, sets.at(0), "cfg(all())");

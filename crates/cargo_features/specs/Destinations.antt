@@ -8,7 +8,7 @@ use Rattle.package_graphs.specs.declared.packages.Kind.TheVariants as kinds
 use Rattle.package_graphs.specs.declared.packages.Side.{Side}
 use Rattle.package_graphs.specs.declared.packages.Side.TheVariants.{Target, Host}
 use Rattle.cargo_features.specs.declared.build.Build.{Build}
-use Rattle.cargo_features.specs.declared.build.Way.{Way}
+use Rattle.cargo_features.specs.declared.build.Destination.{Destination}
 use Rattle.cargo_features.specs.declared.claims.Condition.{Condition}
 use Rattle.cargo_features.specs.declared.claims.Condition.TheVariants.{Always, OfTarget, OfHost}
 use Rattle.cargo_features.specs.declared.packages.Dependency.{Dependency}
@@ -24,8 +24,8 @@ condition false set = OfTarget set
 
 -- what is built for the host leads to what is built for it too, as do build-dependencies; a procedural macro is built
 -- for the host
-abbrev pub way : List Package → Side → Dependency → Way
-way packages from d = record {
+abbrev pub destination : List Package → Side → Dependency → Destination
+destination packages from d = record {
   side = side (is_of_host from d.kind || is_macro packages d.to);
   condition = condition (is_of_host from d.kind) d.holds;
 }
@@ -35,10 +35,10 @@ abbrev pub feature_side : Build → Side → Side
 feature_side build from = cond build.by_side from Target
 
 -- and if they are not kept apart by target, every condition counts as true
-abbrev pub feature_way : Build → List Package → Side → Dependency → Way
-feature_way build packages from d = record {
-  side = feature_side build (way packages from d).side;
-  condition = cond build.by_target (way packages from d).condition Always;
+abbrev pub feature_destination : Build → List Package → Side → Dependency → Destination
+feature_destination build packages from d = record {
+  side = feature_side build (destination packages from d).side;
+  condition = cond build.by_target (destination packages from d).condition Always;
 }
 
 -- dev-dependencies are those of roots only

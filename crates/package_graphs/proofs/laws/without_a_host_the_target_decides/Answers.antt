@@ -1,5 +1,5 @@
 use Rattle.package_graphs.proofs.Alone.{alone_from_none, none_from_alone}
-use Rattle.package_graphs.proofs.laws.without_a_host_the_target_is_asked.Goals as goal
+use Rattle.package_graphs.proofs.laws.without_a_host_the_target_decides.Goals as goal
 
 pub returns : goal.returns
 returns c packages kinds k p =
