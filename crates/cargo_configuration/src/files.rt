@@ -5,7 +5,8 @@ use crate::environment::variable;
 use std::alloc::{AllocError, Global};
 use std::rt::{Env, Files};
 use workspaces::{
-    MANIFEST, depth_at_hand, folder_of, from_above, inside, is_file, manifest_inside, shorter,
+    MANIFEST, current_folder_depth, folder_of, from_above, inside, is_file, manifest_inside,
+    shorter,
 };
 
 /// The folder that holds a configuration, beside the manifest of a workspace.
@@ -86,7 +87,7 @@ fn add_above<R: Files + Env + AllocGlobal>(
     rt: &R,
     files: &mut Vec<String>,
 ) -> Result<(), AllocError> {
-    for count in 0..=depth_at_hand(rt)? {
+    for count in 0..=current_folder_depth(rt)? {
         let folder = from_above(rt.alloc(), count, FOLDER)?;
         add_configuration(rt, folder.as_str(), files)?;
     }
@@ -98,7 +99,7 @@ fn add_above<R: Files + Env + AllocGlobal>(
 /// above and the user's own occurs twice.
 ///
 /// Fails only if an allocation fails.
-pub fn configurations_at_hand<R: Files + Env + AllocGlobal>(
+pub fn current_configurations<R: Files + Env + AllocGlobal>(
     rt: &R,
 ) -> Result<Vec<String>, AllocError> {
     let mut files = Vec::new(rt.alloc());

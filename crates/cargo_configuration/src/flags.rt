@@ -238,7 +238,7 @@ fn file_flags<R: Files + Input + Env + AllocGlobal>(
 ) -> Result<Vec<Flags>, Refusal> {
     let alloc = rt.alloc();
     let mut found = Vec::new(alloc);
-    let mut files = UnreadFiles::at_hand(rt)?;
+    let mut files = UnreadFiles::current(rt)?;
     for _ in 0..MOST_FILES {
         let Some(configuration) = files.read_next(rt, limit)? else {
             return Ok(found);

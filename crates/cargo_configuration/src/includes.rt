@@ -1,7 +1,7 @@
 //! Configuration files in the order in which they are read, with those that they include, by Cargo's reference
 //! ("Configuration": `include`).
 
-use crate::files::configurations_at_hand;
+use crate::files::current_configurations;
 use cargo_platform::shown_text;
 use key_answers::answer::Refusal;
 use manifests::reading::{Manifest, read_manifest};
@@ -10,7 +10,7 @@ use std::rt::{Env, Files};
 use toml::{Table, Value};
 use workspaces::{folder_of, inside, is_file, text_in};
 
-/// How many configuration files are read at most.
+/// The maximum number of configuration files that are read.
 pub const MOST_FILES: usize = 1024;
 
 /// Configuration files that are not read yet.
@@ -32,8 +32,8 @@ impl UnreadFiles {
     /// Returns the configurations that Cargo reads in the current folder.
     ///
     /// Fails only if an allocation fails.
-    pub fn at_hand<R: Files + Env + AllocGlobal>(rt: &R) -> Result<UnreadFiles, AllocError> {
-        let mut paths = configurations_at_hand(rt)?;
+    pub fn current<R: Files + Env + AllocGlobal>(rt: &R) -> Result<UnreadFiles, AllocError> {
+        let mut paths = current_configurations(rt)?;
         paths.reverse();
         Ok(UnreadFiles { paths })
     }

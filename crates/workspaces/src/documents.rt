@@ -1,6 +1,6 @@
 //! Manifests that are read and parsed once, however often they are needed.
 
-use crate::manifests::{table_in, table_of, text_in, unless_refused};
+use crate::manifests::{if_successful, table_in, table_of, text_in};
 use input_limits::{INPUT, file_within};
 use std::alloc::{AllocError, Global};
 use std::collections::BTreeMap;
@@ -8,7 +8,7 @@ use std::fs;
 use std::rt::Files;
 use toml::Table;
 
-/// What the manifest of a root has, and what other manifests say of theirs.
+/// The name of the table that the manifest of a root has, and of the field by which a member names its root.
 const WORKSPACE: &str = "workspace";
 
 /// A manifest that has been read and parsed.
@@ -82,7 +82,7 @@ struct ReadFile {
     /// None if the file can't be used, or if the document has been taken.
     document: Option<Document>,
     is_taken: bool,
-    /// How often the document is still to be taken, as far as that is known.
+    /// The number of times that the document is still to be taken, as far as that is known.
     uses: usize,
     root: RootPlace,
     /// The text, if it was given in place of that of the file.
@@ -123,7 +123,7 @@ impl ReadFile {
         file: &str,
         limit: u64,
     ) -> Result<ReadFile, AllocError> {
-        match unless_refused(file_within(rt, file, limit))? {
+        match if_successful(file_within(rt, file, limit))? {
             Some(text) => {
                 let table = table_of(rt.alloc(), text.as_str())?;
                 ReadFile::of(rt.alloc(), text, table)
@@ -158,7 +158,7 @@ impl ReadFile {
 
 /// Returns the path of a file without links, or the path as it is given where that is not known.
 pub(crate) fn real_path<R: Files + AllocGlobal>(rt: &R, file: &str) -> Result<String, AllocError> {
-    match unless_refused(fs::canonicalize(rt, file))? {
+    match if_successful(fs::canonicalize(rt, file))? {
         Some(path) => Ok(path.into_string()),
         None => String::from_str(rt.alloc(), file),
     }
@@ -167,7 +167,7 @@ pub(crate) fn real_path<R: Files + AllocGlobal>(rt: &R, file: &str) -> Result<St
 /// The manifests that have been read, by the real paths of their files.
 #[derive(Drop)]
 pub struct Documents {
-    /// How many bytes a manifest may have.
+    /// The maximum number of bytes of a manifest.
     pub limit: u64,
     files: BTreeMap<String, ReadFile>,
 }

@@ -3,8 +3,8 @@
 use crate::choosing::choose;
 use crate::documents::{Documents, RootPlace, real_path};
 use crate::manifests::{
-    MANIFEST, folder_of, from_above, inside, is_file, is_folder, manifest_inside, nearer, shorter,
-    table_of, unless_refused,
+    MANIFEST, folder_of, from_above, if_successful, inside, is_file, is_folder, manifest_inside,
+    shorter, simplified_from, table_of,
 };
 use crate::members::members_of;
 use input_limits::{INPUT, Unusable};
@@ -50,8 +50,8 @@ impl Found {
 }
 
 /// Returns how many components the path of the current folder has, or 0 if it is not known.
-pub fn depth_at_hand<R: Env + AllocGlobal>(rt: &R) -> Result<usize, AllocError> {
-    Ok(match unless_refused(env::current_dir(rt))? {
+pub fn current_folder_depth<R: Env + AllocGlobal>(rt: &R) -> Result<usize, AllocError> {
+    Ok(match if_successful(env::current_dir(rt))? {
         Some(folder) => folder.as_path().components().count(),
         None => 0,
     })
@@ -59,7 +59,7 @@ pub fn depth_at_hand<R: Env + AllocGlobal>(rt: &R) -> Result<usize, AllocError> 
 
 /// Returns the path of the manifest in the current folder or in the nearest folder above, if there is one.
 fn manifest_above<R: Files + Env + AllocGlobal>(rt: &R) -> Result<Option<String>, AllocError> {
-    for count in 0..=depth_at_hand(rt)? {
+    for count in 0..=current_folder_depth(rt)? {
         let file = from_above(rt.alloc(), count, MANIFEST)?;
         if is_file(rt, file.as_str())? {
             return Ok(Some(file));
@@ -133,7 +133,7 @@ fn root_above<R: Files + Env + AllocGlobal>(
     documents: &mut Documents,
     folder: &str,
 ) -> Result<Option<String>, AllocError> {
-    let depth = depth_at_hand(rt)?.saturating_add(folder.split('/').count());
+    let depth = current_folder_depth(rt)?.saturating_add(folder.split('/').count());
     for count in 1..=depth {
         let root = manifest_over(rt.alloc(), folder, count)?;
         if is_root(rt, documents, root.as_str())? {
@@ -296,7 +296,7 @@ fn each_once<R: Files + AllocGlobal>(rt: &R, paths: &[String]) -> Result<Vec<Str
 
 /// Returns the path of the current folder, if it is known.
 fn current_folder<R: Env + AllocGlobal>(rt: &R) -> Result<String, AllocError> {
-    match unless_refused(env::current_dir(rt))? {
+    match if_successful(env::current_dir(rt))? {
         Some(folder) => Ok(folder.into_string()),
         None => Ok(String::new(rt.alloc())),
     }
@@ -306,7 +306,7 @@ fn current_folder<R: Env + AllocGlobal>(rt: &R) -> Result<String, AllocError> {
 fn nearer_paths(alloc: Global, folder: &str, paths: &[String]) -> Result<Vec<String>, AllocError> {
     let mut found = Vec::new(alloc);
     for path in paths {
-        found.push(nearer(alloc, folder, path.as_str())?)?;
+        found.push(simplified_from(alloc, folder, path.as_str())?)?;
     }
     Ok(found)
 }

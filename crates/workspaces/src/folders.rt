@@ -2,7 +2,7 @@
 
 use crate::components::{Component, Name};
 use crate::documents::real_path;
-use crate::manifests::{inside, is_folder, unless_refused};
+use crate::manifests::{if_successful, inside, is_folder};
 use crate::patterns::{Pattern, is_glob, plain_components};
 use crate::pieces::Piece;
 use std::alloc::{AllocError, Global};
@@ -19,7 +19,7 @@ fn add_name<R: Files + AllocGlobal + Clone + Drop>(
     alloc: Global,
     entry: io::Result<DirEntry<R>>,
 ) -> Result<(), AllocError> {
-    if let Some(entry) = unless_refused(entry)? {
+    if let Some(entry) = if_successful(entry)? {
         names.push(String::from_str(alloc, entry.file_name())?)?;
     }
     Ok(())
@@ -33,7 +33,7 @@ fn names_in<R: Files + AllocGlobal + Clone + Drop>(
     let alloc = rt.alloc();
     let mut names = Vec::new(alloc);
     let folder = if folder.is_empty() { "." } else { folder };
-    if let Some(entries) = unless_refused(fs::read_dir(rt, folder))? {
+    if let Some(entries) = if_successful(fs::read_dir(rt, folder))? {
         for entry in entries {
             add_name(&mut names, alloc, entry)?;
         }
@@ -59,7 +59,7 @@ fn is_own_folder<R: Files + AllocGlobal>(
     path: &str,
 ) -> Result<bool, AllocError> {
     let place = inside(rt.alloc(), root, path)?;
-    match unless_refused(fs::symlink_metadata(rt, place.as_str()))? {
+    match if_successful(fs::symlink_metadata(rt, place.as_str()))? {
         Some(found) => Ok(found.is_dir()),
         None => Ok(false),
     }

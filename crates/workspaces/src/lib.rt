@@ -21,7 +21,7 @@ mod pieces;
 
 pub use components::{CharacterRange, Characters, Component, Name, Part};
 pub use documents::{Document, Documents};
-pub use finding::{Found, ManifestSelection, depth_at_hand, find, put_text, root_of};
+pub use finding::{Found, ManifestSelection, current_folder_depth, find, put_text, root_of};
 pub use inheritance::{Inheritable, inherits_lints};
 pub use inherited::{
     inherits, is_of_2024, mistyped, mistyped_beside, put_inherited, uninheritable,

@@ -103,7 +103,7 @@ fn joined_above(alloc: Global, count: usize, components: &[&str]) -> Result<Stri
 /// again at once.
 ///
 /// Fails only if an allocation fails.
-pub fn nearer(alloc: Global, folder: &str, path: &str) -> Result<String, AllocError> {
+pub fn simplified_from(alloc: Global, folder: &str, path: &str) -> Result<String, AllocError> {
     let up = steps_up(path);
     let names: Vec<&str> = folder.split('/').collect(alloc)?;
     if up == 0 || names.len() < up {
@@ -128,7 +128,7 @@ pub fn folder_of(file: &str) -> &str {
 }
 
 /// Returns what a call on files returned, or `None` if it failed. Fails only if an allocation fails.
-pub fn unless_refused<T>(given: io::Result<T>) -> Result<Option<T>, AllocError> {
+pub fn if_successful<T>(given: io::Result<T>) -> Result<Option<T>, AllocError> {
     match given {
         Ok(given) => Ok(Some(given)),
         Err(error) => {
@@ -143,7 +143,7 @@ pub fn unless_refused<T>(given: io::Result<T>) -> Result<Option<T>, AllocError> 
 /// Returns whether a folder is at the path.
 pub fn is_folder<R: Files + AllocGlobal>(rt: &R, path: &str) -> Result<bool, AllocError> {
     let path = if path.is_empty() { "." } else { path };
-    match unless_refused(fs::metadata(rt, path))? {
+    match if_successful(fs::metadata(rt, path))? {
         Some(found) => Ok(found.is_dir()),
         None => Ok(false),
     }
@@ -151,7 +151,7 @@ pub fn is_folder<R: Files + AllocGlobal>(rt: &R, path: &str) -> Result<bool, All
 
 /// Returns whether a file is at the path.
 pub fn is_file<R: Files + AllocGlobal>(rt: &R, path: &str) -> Result<bool, AllocError> {
-    match unless_refused(fs::metadata(rt, path))? {
+    match if_successful(fs::metadata(rt, path))? {
         Some(found) => Ok(found.is_file()),
         None => Ok(false),
     }

@@ -326,7 +326,7 @@ fn real_folder<R: Files + AllocGlobal>(rt: &R, file: &str) -> Result<String, All
     real_path(rt, if folder.is_empty() { "." } else { folder })
 }
 
-/// How many missing members an error names.
+/// The maximum number of missing members that an error names.
 const NAMED: usize = 3;
 
 /// Appends a name to a list, after a comma unless it is the first.
