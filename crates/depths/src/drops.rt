@@ -69,7 +69,7 @@ impl Place {
     }
 
     /// Drops two conditions at the place. Returns whether what is seen of that is right.
-    pub fn lets_go(self, alloc: Global, a: Platform, b: Platform) -> Result<bool, AllocError> {
+    pub fn drops_both(self, alloc: Global, a: Platform, b: Platform) -> Result<bool, AllocError> {
         match self {
             Place::Scope => {
                 let held = a;
@@ -150,7 +150,7 @@ fn read(alloc: Global, shape: Shape, levels: usize) -> Result<Option<Platform>, 
 }
 
 /// Makes a condition by hand, parses it from text, and drops both at this place.
-pub fn is_let_go(
+pub fn is_dropped(
     alloc: Global,
     shape: Shape,
     levels: usize,
@@ -158,7 +158,7 @@ pub fn is_let_go(
 ) -> Result<bool, AllocError> {
     let made = shape.made(alloc, levels)?;
     match read(alloc, shape, levels)? {
-        Some(read) => place.lets_go(alloc, made, read),
+        Some(read) => place.drops_both(alloc, made, read),
         None => Ok(false),
     }
 }

@@ -107,7 +107,7 @@ fn drop_at_each(rt: &(impl Print + AllocGlobal), shape: Shape, levels: usize) ->
     let pattern = shape.pattern(rt.alloc())?;
     let mut are_right = true;
     for place in PLACES {
-        let is_right = drops::is_let_go(rt.alloc(), shape, levels, *place)?;
+        let is_right = drops::is_dropped(rt.alloc(), shape, levels, *place)?;
         let said = if is_right { "let go" } else { "wrong" };
         let name = place.name();
         println!(rt; "{levels} levels of {pattern}, {name}: {said}")?;
@@ -126,7 +126,7 @@ fn drop_again(
     let mut are_right = true;
     for _ in 0..times {
         for place in PLACES {
-            let is_right = drops::is_let_go(rt.alloc(), shape, levels, *place)?;
+            let is_right = drops::is_dropped(rt.alloc(), shape, levels, *place)?;
             are_right = are_right && is_right;
         }
     }

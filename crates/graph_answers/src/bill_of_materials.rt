@@ -1,6 +1,6 @@
 //! `--format cyclonedx`: a software bill of materials, as a CycloneDX document.
 
-use crate::components::{Listed, is_root, listed_of};
+use crate::components::{ListedPackage, is_root, listed_packages};
 use crate::dates::time_of;
 use crate::graph::Graph;
 use crate::lines::{shown, shown_package};
@@ -18,7 +18,7 @@ use known_targets::TargetSet;
 use serde_json::Value;
 use std::alloc::{AllocError, Global};
 
-/// What a bill of materials says besides the packages of a graph.
+/// The contents of a bill of materials besides the packages of a graph.
 #[derive(Clone, Copy, Drop)]
 pub struct Bill<'a> {
     /// The version of the program.
@@ -47,7 +47,7 @@ pub fn misplaced_format(arguments: &GraphArguments<'_>) -> Option<&'static str> 
 const WORKSPACE: &str = "workspace";
 
 /// Returns whether two of the packages have the same package URL.
-fn has_twins(alloc: Global, packages: &[Listed<'_>]) -> Result<bool, AllocError> {
+fn has_twins(alloc: Global, packages: &[ListedPackage<'_>]) -> Result<bool, AllocError> {
     let mut purls = Vec::new(alloc);
     for package in packages {
         purls.push(package.purl.as_str())?;
@@ -64,7 +64,7 @@ fn has_twins(alloc: Global, packages: &[Listed<'_>]) -> Result<bool, AllocError>
 /// Returns the references of the packages: their package URLs, or their ids if two package URLs are the same.
 fn references_of<'p>(
     alloc: Global,
-    packages: &'p [Listed<'_>],
+    packages: &'p [ListedPackage<'_>],
 ) -> Result<Vec<&'p str>, AllocError> {
     let has_twins = has_twins(alloc, packages)?;
     let mut references = Vec::new(alloc);
@@ -82,7 +82,7 @@ fn references_of<'p>(
 fn places_of(
     alloc: Global,
     graph: &Graph<'_>,
-    packages: &[Listed<'_>],
+    packages: &[ListedPackage<'_>],
 ) -> Result<Vec<usize>, AllocError> {
     let mut places = vec![in alloc; usize::MAX; graph.linked.packages.len()]?;
     for i in 0..packages.len() {
@@ -115,7 +115,7 @@ fn edges_of(
 }
 
 /// Returns the place of the only root among the packages, or `None` if there are several.
-fn only_root(graph: &Graph<'_>, packages: &[Listed<'_>]) -> Option<usize> {
+fn only_root(graph: &Graph<'_>, packages: &[ListedPackage<'_>]) -> Option<usize> {
     let mut root = None;
     for i in 0..packages.len() {
         if is_root(graph, packages[i].index) {
@@ -133,7 +133,7 @@ fn workspace_node<'n>(
     alloc: Global,
     graph: &Graph<'_>,
     query: &GraphQuery<'_>,
-    packages: &[Listed<'_>],
+    packages: &[ListedPackage<'_>],
 ) -> Result<Node<'n>, AllocError> {
     let mut edges = Vec::new(alloc);
     for i in 0..packages.len() {
@@ -156,7 +156,7 @@ fn nodes_of<'n>(
     alloc: Global,
     graph: &Graph<'_>,
     query: &GraphQuery<'_>,
-    packages: &[Listed<'_>],
+    packages: &[ListedPackage<'_>],
     references: &[&'n str],
 ) -> Result<Vec<Node<'n>>, AllocError> {
     let root = only_root(graph, packages);
@@ -258,7 +258,7 @@ fn component_of<'a>(
     alloc: Global,
     graph: &Graph<'_>,
     query: &GraphQuery<'_>,
-    package: &Listed<'a>,
+    package: &ListedPackage<'a>,
     reference: &str,
 ) -> Result<Component<'a>, AllocError> {
     let properties = properties_of(alloc, graph, query, package.index)?;
@@ -295,7 +295,7 @@ fn components_of<'a>(
     alloc: Global,
     graph: &Graph<'_>,
     query: &GraphQuery<'_>,
-    packages: &[Listed<'a>],
+    packages: &[ListedPackage<'a>],
     nodes: &[Node<'_>],
 ) -> Result<Vec<Component<'a>>, AllocError> {
     let root = only_root(graph, packages);
@@ -316,7 +316,7 @@ fn subject_of<'a>(
     alloc: Global,
     graph: &Graph<'a>,
     query: &GraphQuery<'_>,
-    packages: &[Listed<'a>],
+    packages: &[ListedPackage<'a>],
     nodes: &[Node<'_>],
 ) -> Result<Component<'a>, AllocError> {
     if let Some(root) = only_root(graph, packages) {
@@ -371,7 +371,7 @@ fn document_of<'a>(
     graph: &Graph<'a>,
     query: &GraphQuery<'_>,
     bill: &Bill<'_>,
-    packages: &[Listed<'a>],
+    packages: &[ListedPackage<'a>],
 ) -> Result<Answer, AllocError> {
     let references = references_of(alloc, packages)?;
     let nodes = nodes_of(alloc, graph, query, packages, &references)?;
@@ -389,7 +389,11 @@ fn document_of<'a>(
 }
 
 /// Returns the message for a package that a lock file lacks.
-fn not_locked(alloc: Global, lock: &str, package: &Listed<'_>) -> Result<String, AllocError> {
+fn not_locked(
+    alloc: Global,
+    lock: &str,
+    package: &ListedPackage<'_>,
+) -> Result<String, AllocError> {
     let shown_package = shown_package(alloc, &package.described)?;
     let source = shown(alloc, package.source().unwrap_or(""))?;
     format!(in alloc; "{lock} has no package {shown_package} from {source}")
@@ -399,7 +403,7 @@ fn not_locked(alloc: Global, lock: &str, package: &Listed<'_>) -> Result<String,
 fn reject_unlocked(
     alloc: Global,
     bill: &Bill<'_>,
-    packages: &[Listed<'_>],
+    packages: &[ListedPackage<'_>],
 ) -> Result<(), Rejected> {
     let Some((name, lock)) = bill.lock else {
         return Ok(());
@@ -429,7 +433,7 @@ pub fn show_bill<'a>(
         Some((_, lock)) => Some(lock),
         None => None,
     };
-    let packages = listed_of(alloc, graph, document, lock)?;
+    let packages = listed_packages(alloc, graph, document, lock)?;
     reject_unlocked(alloc, bill, &packages)?;
     Ok(document_of(alloc, graph, query, bill, &packages)?)
 }

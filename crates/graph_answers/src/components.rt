@@ -15,7 +15,7 @@ use std::collections::BTreeMap;
 
 /// A package of a graph, as a bill of materials describes it.
 #[derive(Drop)]
-pub struct Listed<'a> {
+pub struct ListedPackage<'a> {
     /// The index of the package in the graph.
     pub index: usize,
     pub described: Described<'a>,
@@ -28,7 +28,7 @@ pub struct Listed<'a> {
     is_application: bool,
 }
 
-impl<'a> Listed<'a> {
+impl<'a> ListedPackage<'a> {
     /// Returns the registry or repository of the package, or `None` if it comes from a folder.
     pub fn source(&self) -> Option<&'a str> {
         text_at(self.object?, "source")
@@ -194,12 +194,12 @@ fn is_application(graph: &Graph<'_>, index: usize, object: Option<&Value>) -> bo
 
 /// Returns the packages of a graph in its order, with their objects in the document and their checksums in the lock
 /// file.
-pub fn listed_of<'a>(
+pub fn listed_packages<'a>(
     alloc: Global,
     graph: &Graph<'a>,
     document: &'a Value,
     lock: Option<&LockFile>,
-) -> Result<Vec<Listed<'a>>, AllocError> {
+) -> Result<Vec<ListedPackage<'a>>, AllocError> {
     let packages = list_at(document, "packages").unwrap_or(&[]);
     let objects = objects_by_id(alloc, packages)?;
     let mut found = Vec::new(alloc);
@@ -211,7 +211,7 @@ pub fn listed_of<'a>(
             Some(place) => packages.get(*place),
             None => None,
         };
-        let mut listed = Listed {
+        let mut listed = ListedPackage {
             index: *index,
             described,
             object,

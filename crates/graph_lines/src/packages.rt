@@ -41,7 +41,7 @@ struct PackageLine<'g, 'a> {
 
 /// A package, with what is printed beside its targets.
 #[derive(Drop)]
-struct Listed {
+struct ListedPackage {
     index: usize,
     /// The dependency kinds through which it is reached, for a line of JSON.
     reached: Option<Reached>,
@@ -51,11 +51,11 @@ struct Listed {
 }
 
 /// Returns the packages, sorted by name, version and id.
-fn listed_of(
+fn listed_packages(
     alloc: Global,
     graph: &Graph<'_>,
     query: &GraphQuery<'_>,
-) -> Result<Vec<Listed>, AllocError> {
+) -> Result<Vec<ListedPackage>, AllocError> {
     let reasons = Reasons::of(alloc, graph)?;
     let reached = if query.json {
         kinds_reached(alloc, graph, query)?
@@ -64,7 +64,7 @@ fn listed_of(
     };
     let mut listed = Vec::new(alloc);
     for i in &graph.order {
-        listed.push(Listed {
+        listed.push(ListedPackage {
             index: *i,
             reached: reached.get(*i).copied(),
             left_out: match &reasons {
@@ -83,7 +83,7 @@ pub fn show_packages(
     query: &GraphQuery<'_>,
 ) -> Result<Answer, AllocError> {
     let mut answer = Answer::of(alloc, String::new(alloc), Status::Fine);
-    for listed in &listed_of(alloc, graph, query)? {
+    for listed in &listed_packages(alloc, graph, query)? {
         if query.json {
             push_object(&mut answer.output, alloc, graph, listed, query)?;
         } else {
@@ -119,7 +119,7 @@ fn push_line(
     text: &mut String,
     alloc: Global,
     graph: &Graph<'_>,
-    listed: &Listed,
+    listed: &ListedPackage,
     query: &GraphQuery<'_>,
 ) -> Result<(), AllocError> {
     let package = graph.shown(alloc, listed.index)?;
@@ -136,7 +136,7 @@ fn push_object(
     text: &mut String,
     alloc: Global,
     graph: &Graph<'_>,
-    listed: &Listed,
+    listed: &ListedPackage,
     query: &GraphQuery<'_>,
 ) -> Result<(), AllocError> {
     let Some(described) = graph.described(listed.index) else {

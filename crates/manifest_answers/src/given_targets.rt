@@ -37,7 +37,7 @@ pub enum FactsFrom<'a> {
 }
 
 /// Returns a line without the carriage return at its end, or `None` if it is blank then.
-pub fn line_that_says(line: &str) -> Option<&str> {
+pub fn non_blank_line(line: &str) -> Option<&str> {
     let line = line.strip_suffix("\r").unwrap_or(line);
     if line.trim().is_empty() {
         None
@@ -51,7 +51,7 @@ pub fn line_that_says(line: &str) -> Option<&str> {
 fn lines_of(alloc: Global, text: &str) -> Result<String, AllocError> {
     let mut lines = String::new(alloc);
     for line in without_mark(text).split('\n') {
-        lines.push_str(line_that_says(line).unwrap_or(""))?;
+        lines.push_str(non_blank_line(line).unwrap_or(""))?;
         lines.push_str("\n")?;
     }
     Ok(lines)

@@ -4,7 +4,7 @@ ghost use Rattle.std.specs.Prelude.{◌↔◌, IsTrue, IfOk, map};
 ghost use Rattle.cargo_platform.specs.Trees.{value_of, condition_of};
 ghost use Rattle.cargo_platform.specs.Facts.{fact_set, IsTrueCondition};
 
-use crate::given_targets::{FactsFrom, GivenTargets, line_that_says};
+use crate::given_targets::{FactsFrom, GivenTargets, non_blank_line};
 use cargo_platform::{
     Cfg, FactIndex, FactsError, Platform, ReadError, read_facts, shown_start, values_of,
 };
@@ -295,7 +295,7 @@ pub fn targets_in(
 fn fact_lines_of(alloc: Global, text: &str) -> Result<String, AllocError> {
     let mut lines = String::new(alloc);
     for line in without_mark(text).split('\n') {
-        if let Some(fact) = line_that_says(line) {
+        if let Some(fact) = non_blank_line(line) {
             lines.push_str(fact)?;
             lines.push_str("\n")?;
         }
@@ -312,7 +312,7 @@ fn line_of_fact(text: &str, facts: usize) -> usize {
             return number;
         }
         number = number.saturating_add(1);
-        if line_that_says(line).is_some() {
+        if non_blank_line(line).is_some() {
             left = left.saturating_sub(1);
         }
     }

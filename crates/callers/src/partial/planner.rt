@@ -28,7 +28,7 @@ pub fn plan<K: Knowledge>(alloc: Global, e: &CfgExpr, known: &K) -> Result<Strin
 }
 
 /// Evaluates a stored text over the facts of a target, once they are known.
-pub fn ask(alloc: Global, text: &str, facts: &[Cfg]) -> Result<bool, ReadError>
+pub fn matches_plan(alloc: Global, text: &str, facts: &[Cfg]) -> Result<bool, ReadError>
     ensures answer { IfOk result (λ yes. (d : Tree) → IsTreeText text.now d
         → yes ≡ truth (fact_set (map value_of facts.now)) d) }
     ensures orig { IfParse result (λ e. orig_of e ≡ text.now) }

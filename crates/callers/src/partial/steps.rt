@@ -13,7 +13,7 @@ use std::alloc::{AllocError, Global};
 /// Returns the residual of the condition. The first step knows only facts of the target. The second one also knows the
 /// name of the target, and which names and keys have all their facts listed. Both steps together have the same result
 /// as the second one alone.
-pub fn left_in_two_steps(
+pub fn residual_in_two_steps(
     alloc: Global,
     platform: &Platform,
     name: &str,

@@ -2,8 +2,8 @@
 
 use super::audit::may_leave_out;
 use super::flags::by_flags;
-use super::planner::{ask, plan};
-use super::steps::left_in_two_steps;
+use super::planner::{matches_plan, plan};
+use super::steps::residual_in_two_steps;
 use super::targets::{OneOf, for_all};
 use crate::support::expression;
 use cargo_platform::{Cfg, CfgExpr, Platform};
@@ -39,22 +39,22 @@ fn assert_decision(rt: &impl Abort, text: &str, decided: Option<bool>, wanted: O
 }
 
 /// Asserts the answer of a plan's text over these facts.
-fn assert_asked(rt: &impl Abort, alloc: Global, plan: &str, lines: &str, wanted: bool) {
+fn assert_matches(rt: &impl Abort, alloc: Global, plan: &str, lines: &str, wanted: bool) {
     let facts = facts(rt, alloc, lines);
-    let asked = ask(alloc, plan, &facts).expect(rt, plan);
-    assert_decision(rt, lines, Some(asked), Some(wanted));
+    let matched = matches_plan(alloc, plan, &facts).expect(rt, plan);
+    assert_decision(rt, lines, Some(matched), Some(wanted));
 }
 
 #[test]
-fn a_plan_is_asked_later(rt: HostRuntime) {
+fn a_plan_is_matched_later(rt: HostRuntime) {
     let alloc = rt.alloc();
     let facts = facts(&rt, alloc, LINUX);
     let condition = "all(unix, any(loom, not(feature = \"std\")))";
     let e = CfgExpr::from_str(alloc, condition).expect(&rt, condition);
     let plan = plan(alloc, &e, &listed(&facts)).expect(&rt, "memory");
-    assert_asked(&rt, alloc, &plan, "unix\nloom", true);
-    assert_asked(&rt, alloc, &plan, "unix\nfeature = \"std\"", false);
-    assert_asked(&rt, alloc, &plan, "unix\nfeature = \"alloc\"", true);
+    assert_matches(&rt, alloc, &plan, "unix\nloom", true);
+    assert_matches(&rt, alloc, &plan, "unix\nfeature = \"std\"", false);
+    assert_matches(&rt, alloc, &plan, "unix\nfeature = \"alloc\"", true);
 }
 
 /// Asserts whether an audit of 64-bit Linux leaves out a dependency under the condition.
@@ -100,7 +100,7 @@ fn what_several_targets_have_in_common(rt: HostRuntime) {
 fn assert_left(rt: &impl Abort, alloc: Global, text: &str, wanted: &str) {
     let facts = facts(rt, alloc, "target_os = \"wasi\"");
     let platform = Platform::from_str(alloc, text).expect(rt, text);
-    let left = left_in_two_steps(alloc, &platform, "wasm32-wasip1", &facts, &["windows"]);
+    let left = residual_in_two_steps(alloc, &platform, "wasm32-wasip1", &facts, &["windows"]);
     let left = left.expect(rt, "memory");
     let printed = left.to_string(alloc).expect(rt, "memory");
     assert!(rt; printed.as_str() == wanted, "{text}");

@@ -1,7 +1,7 @@
 use Rattle.std.proofs.Common.{◌∙◌, ap, map}
 use Rattle.cargo_platform.specs.Trees.{value_of, tree_of}
 use Rattle.cargo_platform.specs.Facts.{fact_set, truth}
-use Rattle.callers.proofs.partial.planner.ask.Goals as goal
+use Rattle.callers.proofs.partial.planner.matches_plan.Goals as goal
 
 pub returns-in-Ok-clause-answer : goal.returns-in-Ok-clause-answer
 returns-in-Ok-clause-answer c d spells =
