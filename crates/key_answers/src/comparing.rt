@@ -54,7 +54,7 @@ impl Relation {
     }
 }
 
-/// How two keys relate at every possible target, that is for every possible set of facts.
+/// The relations between two keys on every possible target, that is, for every possible set of facts.
 #[derive(Drop)]
 pub struct Everywhere {
     pub implies: MustSelect,
@@ -82,7 +82,7 @@ impl Everywhere {
     }
 }
 
-/// How two keys relate on the known targets, each with its own facts.
+/// The relations between two keys on the known targets, each with its own facts.
 #[derive(Clone, Copy, Drop)]
 pub struct AtKnown {
     /// Whether each relation is true on all known targets, in the order of `RELATIONS`.
@@ -232,8 +232,8 @@ fn undecided_notes(
 /// Returns the meaning of a group without members.
 fn empty_group(e: &CfgExpr) -> Option<&'static str> {
     let (members, meaning) = match e {
-        CfgExpr::Any(members) => (members, "it holds nowhere"),
-        CfgExpr::All(members) => (members, "it holds everywhere"),
+        CfgExpr::Any(members) => (members, "it is true on no target"),
+        CfgExpr::All(members) => (members, "it is true on every target"),
         CfgExpr::Not(_) | CfgExpr::Value(_) | CfgExpr::True | CfgExpr::False => return None,
     };
     if members.is_empty() {

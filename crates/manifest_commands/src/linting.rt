@@ -455,7 +455,7 @@ fn push_undecided(
         if let Some(key) = report.keys.get(*place) {
             let key = shown_start(alloc, key.text)?;
             let note = format!(in alloc;
-                "{path}: note: target.'{key}': whether it is always, never or equivalent takes too many splits\n"
+                "{path}: note: target.'{key}': too complex to decide `always`, `never` and `equivalent`\n"
             )?;
             errors.push_str(note.as_str())?;
         }
