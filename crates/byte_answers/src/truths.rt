@@ -112,7 +112,7 @@ fn last_found(bytes: &[u8]) -> Option<LastFound<'_>>
     })
 }
 
-/// What is true of truths that were taken off a stack.
+/// Whether all, and whether any, of the truth values that were taken off a stack are true.
 #[derive(Clone, Copy, Drop)]
 struct Taken {
     all: bool,

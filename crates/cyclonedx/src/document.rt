@@ -20,7 +20,7 @@ pub struct Bom<'a, 'r> {
     pub dependencies: Vec<Relation<'r>>,
 }
 
-/// What a document says of itself.
+/// The metadata of a document.
 #[derive(Drop, Serialize)]
 pub struct BomMetadata<'a> {
     /// The time that `SOURCE_DATE_EPOCH` sets, in UTC.
@@ -119,7 +119,7 @@ pub struct ExternalReference<'a> {
     pub url: &'a str,
 }
 
-/// What the specification has no field for.
+/// A name and a value for which the specification has no field.
 #[derive(Drop, Serialize)]
 pub struct Property {
     pub name: &'static str,

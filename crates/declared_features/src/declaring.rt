@@ -14,7 +14,7 @@ use package_graphs::Dependency as LinkedEdge;
 use serde_json::Value;
 use std::alloc::{AllocError, Global};
 
-/// What the packages of a document declare.
+/// The declarations of the packages of a document.
 #[derive(Drop)]
 pub struct Declarations<'a> {
     /// In the order of the document's packages.

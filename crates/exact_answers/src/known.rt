@@ -1,4 +1,4 @@
-//! What is known of the facts of a target.
+//! The knowledge of the facts of a target.
 
 ghost use Rattle.std.specs.Prelude.{◌≡◌, ◌↔◌, true, IfOk};
 ghost use Rattle.cargo_platform.specs.Trees.{tree_of};
@@ -34,7 +34,7 @@ pub fn family_rule(alloc: Global) -> Result<CfgExpr, AllocError>
     }
 }
 
-/// What is known of the facts of a target. A set of facts is possible where
+/// The knowledge of the facts of a target. A set of facts is possible if
 ///
 /// - it has each fact of `facts`;
 /// - a name or key in `complete` has no fact in it that is not in `facts`, alone or with a value;

@@ -37,7 +37,8 @@ pub enum Operation<'a> {
     Group(bool, usize),
 }
 
-/// What is known of a pair, the sets that may have it, and those that may lack it, a bit for each set.
+/// A pair with whether it is a fact, if that is known; and the sets that may have it and those that may lack it, a bit
+/// for each set.
 #[derive(Clone, Copy)]
 pub struct Words<'a> {
     pub pair: &'a Cfg,
@@ -46,7 +47,7 @@ pub struct Words<'a> {
     pub without: u64,
 }
 
-/// What is seen of a goal by what is known of pairs.
+/// Whether a goal is met by what is known of pairs.
 #[derive(Clone, Copy)]
 pub enum Seen {
     /// Whether it is met.

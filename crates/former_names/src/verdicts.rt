@@ -1,4 +1,4 @@
-//! What it means for a project that rustc no longer knows a name.
+//! Decides what it means for a project that rustc no longer knows a name.
 
 ghost use Rattle.std.specs.Prelude.{◌↔◌, IsTrue};
 ghost use Rattle.former_names.specs.Verdicts.{IsKnownTo, IsLacking, IsClose, IsVerdict};
@@ -6,7 +6,7 @@ ghost use Rattle.former_names.specs.Verdicts.{IsKnownTo, IsLacking, IsClose, IsV
 use crate::releases::Release;
 use crate::rows::Bounds;
 
-/// What an unknown name means for a project.
+/// The consequence of an unknown name for a project.
 #[derive(Clone, Copy, Debug, PartialEq, Eq, Drop)]
 pub enum Verdict {
     /// The project's rustc knows the name.

@@ -262,7 +262,7 @@ struct Row {
     /// The name and the version or versions of the package.
     package: String,
     targets: String,
-    /// What else differs, separated by commas.
+    /// The other differences, separated by commas.
     notes: String,
 }
 

@@ -78,7 +78,7 @@ fn shown_finding(
     }
 }
 
-/// What is found of the licence of a reported package, and the index of the report.
+/// The label of the licence of a reported package, and the index of the report.
 type Labelled = (String, usize);
 
 /// Returns what is found of the licences of the reported packages, sorted.

@@ -11,7 +11,7 @@ use manifest_lints_findings::nearest_target;
 use std::alloc::{AllocError, Global};
 use std::mem;
 
-/// What a policy says of licences.
+/// The licences of a policy, and the packages that it excludes.
 #[derive(Drop)]
 pub struct AuditPolicy {
     pub table: LicenceTable,

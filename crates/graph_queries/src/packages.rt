@@ -1,4 +1,4 @@
-//! What is known of each package of a graph: the dependency kinds that reach it, and how many are in the build.
+//! The dependency kinds through which each package of a graph is reached, and the number of packages in the build.
 
 use crate::graph::Graph;
 use crate::lines::{push, push_comma};

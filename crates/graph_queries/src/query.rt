@@ -70,11 +70,11 @@ pub struct GraphArguments<'a> {
     pub markdown: bool,
     pub requested: Requested<'a>,
     pub json: bool,
-    /// What the HTML page says of how it was made, if one is requested too.
+    /// The command and the date that the HTML page states, if a page is requested too.
     pub html: Option<Made<'a>>,
 }
 
-/// What the HTML page says of how it was made.
+/// The command and the date that the HTML page states.
 #[derive(Clone, Copy, Drop)]
 pub struct Made<'a> {
     /// The command, as a shell reads it.
@@ -102,7 +102,7 @@ pub struct GraphQuery<'a> {
     pub show: Show,
     pub of: &'a str,
     pub json: bool,
-    /// What the HTML page says of how it was made, if one is requested too.
+    /// The command and the date that the HTML page states, if a page is requested too.
     pub html: Option<Made<'a>>,
     pub markdown: bool,
     pub requested: Requested<'a>,

@@ -67,7 +67,7 @@ pub struct Input<'a> {
     pub document: &'a Value,
     pub metadata: Metadata<'a>,
     pub linked: Linked<'a>,
-    /// What the packages declare, or why that cannot be read. No answer without features needs it.
+    /// The declarations of the packages, or why they cannot be read. No answer without features needs them.
     pub declared: Result<Declarations<'a>, Undeclared>,
 }
 

@@ -21,7 +21,7 @@ pub struct Features<'a> {
     pub resolution: Resolution,
 }
 
-/// What the feature resolver returns for a graph.
+/// The result of the feature resolver for a graph.
 #[derive(Drop)]
 pub struct Resolution {
     /// For each package, and each of its dependencies in `resolved`, the index among the dependencies of the linked

@@ -1,4 +1,4 @@
-//! How an identifier is looked up.
+//! Looks identifiers up in the list.
 
 ghost use Rattle.std.specs.Prelude.{◌≡◌, option_map, is_some};
 ghost use Rattle.known_licences.specs.Identifiers.{names_of, listed, first_licences, other_licences};

@@ -4,7 +4,7 @@
 //! and [`nearest_licence`] and [`nearest_exception`] say which one may be meant by a misspelled one. The version of the
 //! list is [`LIST_VERSION`]. `LicenseRef-..` and `DocumentRef-..` name licences outside of the list.
 //!
-//! What allocates takes the allocator first and returns a `Result`.
+//! A function that allocates takes the allocator first and returns a `Result`.
 #![tactic(auto)]
 
 mod identifiers;

@@ -1,4 +1,4 @@
-//! What exceptions add to the list of allowed licences.
+//! Adds the licences of exceptions to the list of allowed licences.
 
 ghost use Rattle.std.specs.Prelude.{◌≡◌, IfOk, map, ◌++◌};
 ghost use Rattle.spdx_expressions.specs.Trees.{term_of};

@@ -60,7 +60,7 @@ fn audit_of(
     }
 }
 
-/// What is found of the licence of a package, over the list and what exceptions add to it.
+/// Judges the licence of a package by the list of allowed licences and what exceptions add to it.
 fn judge_with(
     alloc: Global,
     subject: &Subject<'_>,

@@ -26,7 +26,7 @@ pub struct PackageSpec {
     pub versions: Option<VersionReq>,
 }
 
-/// What is allowed for some packages alone.
+/// An exception: licences that are allowed for some packages only.
 #[derive(Drop)]
 pub struct Exception {
     pub packages: PackageSpec,

@@ -1,6 +1,6 @@
 //! The keys of a policy.
 
-/// What is done with a key.
+/// The treatment of a key.
 #[derive(Clone, Copy, Debug, PartialEq, Eq, Drop)]
 pub enum Treatment {
     /// Its value is used.

@@ -1,7 +1,7 @@
 //! Licence policies: what a `deny.toml` of cargo-deny says of licences, and of the packages and targets that are
 //! audited.
 //!
-//! What allocates takes the allocator first and returns a `Result`.
+//! A function that allocates takes the allocator first and returns a `Result`.
 #![tactic(auto)]
 
 mod arguments;

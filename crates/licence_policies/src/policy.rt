@@ -14,7 +14,7 @@ use manifests::reading::{ManifestText, ReadError};
 use spdx_expressions::Licence;
 use std::alloc::{AllocError, Global};
 
-/// What is done about an entry of a policy that no package needs.
+/// The level of the diagnostic on an entry of a policy that no package needs.
 #[derive(Clone, Copy, Debug, PartialEq, Eq, Drop)]
 pub enum UnusedLevel {
     Allow,
@@ -69,7 +69,7 @@ pub struct Policy {
     pub graph: GraphTable,
     pub licences: LicenceTable,
     pub source: PolicySource,
-    /// What is wrong with the policy, or odd about it. It is invalid if one of these is an error.
+    /// The diagnostics on the policy. It is invalid if one of these is an error.
     pub diagnostics: Vec<Diagnostic>,
 }
 

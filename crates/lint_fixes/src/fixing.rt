@@ -64,7 +64,7 @@ struct FixedText {
     count: usize,
 }
 
-/// What fixes make of a manifest.
+/// The outcome of the fixes of a manifest.
 #[derive(Drop)]
 enum Outcome {
     /// There is no fix to apply.

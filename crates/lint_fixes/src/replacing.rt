@@ -13,14 +13,14 @@ use workspaces::folder_of;
 pub struct FileChange<'a> {
     pub before: &'a str,
     pub after: &'a str,
-    /// How many bytes the file may have.
+    /// The maximum number of bytes of the file.
     pub limit: u64,
 }
 
 /// The reason why a file is not written that is not what was read.
 pub const CHANGED: &str = "the file has changed since it was read";
 
-/// How many names are tried for a new file beside another one.
+/// The maximum number of names that are tried for a new file beside another one.
 const NAMES: usize = 1000;
 
 /// Creates a file beside the one at a path. Returns its path and the file.

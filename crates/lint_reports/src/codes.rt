@@ -244,7 +244,7 @@ fn words(alloc: Global) -> Result<Vec<&'static str>, AllocError> {
     Ok(words)
 }
 
-/// What is wrong with a name that is no lint's, and what to do.
+/// The message about a name that is no lint's, and the help.
 #[derive(Drop)]
 pub struct UnknownLint {
     pub message: String,

@@ -17,7 +17,7 @@ const FIELDS: [&str; 4] = ["linker", "runner", "rustflags", OF_NAMES];
 /// The tables that Cargo reads in manifests.
 const DEPENDENCIES: [&str; 3] = ["dependencies", "dev-dependencies", "build-dependencies"];
 
-/// What is wrong with a field, and what to do.
+/// The message about a field, and the help.
 #[derive(Drop)]
 struct Unread {
     level: Level,

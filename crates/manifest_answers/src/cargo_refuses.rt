@@ -1,4 +1,4 @@
-//! What Cargo rejects in the tables of dependencies of a manifest, and in the fields that it inherits.
+//! Finds what Cargo rejects in the tables of dependencies of a manifest, and in the fields that it inherits.
 
 use crate::dependency_rules::{Inheriting, Ruled, rejected_dependency};
 use cargo_platform::shown_start;

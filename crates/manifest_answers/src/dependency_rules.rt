@@ -1,4 +1,4 @@
-//! What Cargo rejects of a dependency in a manifest, by Cargo's reference ("Specifying Dependencies").
+//! Decides whether Cargo rejects a dependency in a manifest, by Cargo's reference ("Specifying Dependencies").
 
 use cargo_platform::shown_text;
 use manifests::Kind;
@@ -38,7 +38,7 @@ const EXCLUSIVE: [(&str, &str); 4] = [
     ("registry", "registry-index"),
 ];
 
-/// What a manifest inherits from, as far as that is known.
+/// The root that a manifest inherits from, as far as that is known.
 #[derive(Clone, Copy, Drop)]
 pub struct Inheriting<'w> {
     /// True if the workspace of the manifest was searched.

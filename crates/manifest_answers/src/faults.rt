@@ -49,7 +49,7 @@ pub fn span_of(key: &str, error: &ParseError) -> Option<(usize, usize)> {
     Some((span.start, span.end))
 }
 
-/// What is wrong, in a line of `select --json`.
+/// The error, in a line of `select --json`.
 #[derive(Drop, Serialize)]
 struct Cause<'a> {
     /// The key of `target` that can't be used.

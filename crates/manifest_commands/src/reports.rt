@@ -38,7 +38,7 @@ struct Request<'a, 'b> {
     kind: Kind<'a, 'b>,
 }
 
-/// What is reported on a graph, if that is not what `--show` says.
+/// The report on a graph, if it is not what `--show` selects.
 #[derive(Drop)]
 struct Kind<'a, 'b> {
     audit: Option<Audit<'a>>,

@@ -33,7 +33,7 @@ fn read_only() -> io::Error {
 pub struct MemoryFile<'a> {
     /// The bytes that are not read yet.
     pub left: &'a [u8],
-    /// How many bytes the file has.
+    /// The number of bytes of the file.
     length: u64,
 }
 
@@ -109,7 +109,7 @@ impl Read for MemoryFolder {
     }
 }
 
-/// What a path names.
+/// The file or folder that a path names.
 #[derive(Drop)]
 pub(crate) enum Entry<'a> {
     File(&'a [u8]),

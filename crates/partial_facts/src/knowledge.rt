@@ -1,4 +1,4 @@
-//! What is known of the facts of a target.
+//! The knowledge of the facts of a target.
 
 ghost use Rattle.std.specs.Prelude.{◌≡◌, Bool, Option, Some, IfSome};
 ghost use Rattle.std.specs.FinSet.{contains};
@@ -8,7 +8,7 @@ ghost use Rattle.cargo_platform.specs.Facts.{Pair, FactSet, pair_of};
 use crate::names::is_named;
 use cargo_platform::{Cfg, Facts, Listed};
 
-/// What is known of a set of facts.
+/// The knowledge of a set of facts.
 pub trait Knowledge {
     // The sets of facts that are possible.
     ghost allows: { Self → FactSet → Type 0 };

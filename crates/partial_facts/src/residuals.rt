@@ -80,7 +80,7 @@ impl<'a, K: Knowledge> Fold for WhatIsLeft<'a, K> {
         Vec::new(self.alloc)
     }
 
-    /// A literal is skipped, or it decides the group.
+    /// Adds a member, unless it is a literal: that is skipped, or it decides the group.
     fn add(
         &self,
         neutral: bool,

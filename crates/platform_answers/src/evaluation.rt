@@ -48,7 +48,7 @@ impl<'a, F: Facts> Fold for Evaluation<'a, F> {
 
     fn no_members(&self, _neutral: bool) {}
 
-    /// The first member without the neutral truth value decides the group.
+    /// Adds a member. The first one without the neutral truth value decides the group.
     #[tactic(auto, using(crate::proofs::Truths::one_more, crate::proofs::Truths::settled))]
     fn add(
         &self,

@@ -82,7 +82,7 @@ fn is_allowed(allowed: &[Licence], licence: &Licence) -> bool
     allowed.iter().any(|entry| entry.allows(licence))
 }
 
-/// What is known of an expression so far. Parts that can't change it are skipped. `depth` is then the number of
+/// The truth of an expression so far. Parts that can't change it are skipped. `depth` is then the number of
 /// brackets that were opened since.
 #[derive(Clone, Copy)]
 struct Walk {

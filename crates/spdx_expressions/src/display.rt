@@ -1,4 +1,4 @@
-//! How licences, parts and expressions are printed. Printing allocates nothing. The contracts are about plain `{}`, not
+//! Prints licences, parts and expressions. Printing allocates nothing. The contracts are about plain `{}`, not
 //! about a width, a fill or an alignment.
 
 use crate::{Expected, Found, Licence, LicenceExpression, ParseError, Part, ReadError};

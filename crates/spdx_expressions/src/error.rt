@@ -3,7 +3,7 @@
 use std::alloc::{AllocError, Global};
 use std::ops::Range;
 
-/// What is allowed at the place of the fault.
+/// The tokens that are allowed at the place of the fault.
 #[derive(Clone, Copy, Debug, PartialEq, Eq)]
 pub enum Expected {
     /// A licence or `(`.
@@ -18,7 +18,7 @@ pub enum Expected {
     End,
 }
 
-/// What is at the place of the fault.
+/// The token at the place of the fault.
 #[derive(Clone, Copy, Debug, PartialEq, Eq)]
 pub enum Found {
     /// The end of the text.
@@ -46,11 +46,11 @@ pub enum Found {
 pub struct ParseError {
     /// The whole text.
     pub text: String,
-    /// What is allowed there.
+    /// The tokens that are allowed there.
     pub expected: Expected,
-    /// What is there.
+    /// The token that is there.
     pub found: Found,
-    /// Where the fault is, in bytes of the text: the token, or the empty range at the end.
+    /// The span of the fault, in bytes of the text: the token, or the empty range at the end.
     pub span: Range<usize>,
 }
 

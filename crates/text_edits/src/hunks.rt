@@ -5,7 +5,7 @@ use std::alloc::{AllocError, Global};
 /// The number of lines of context before and after what is changed.
 pub(crate) const CONTEXT: usize = 3;
 
-/// What is written behind a last line that has no newline.
+/// The text that is written after a last line without a newline.
 const NO_NEWLINE: &str = "\n\\ No newline at end of file\n";
 
 /// The kind of lines in a hunk.

@@ -1,5 +1,5 @@
-//! What packages inherit from the root of their workspace, by Cargo's reference ("Workspaces": the `package` table and
-//! the `lints` table).
+//! The lints and the `rust-version` that packages inherit from the root of their workspace, by Cargo's reference
+//! ("Workspaces": the `package` table and the `lints` table).
 
 use crate::documents::Document;
 use crate::manifests::{put, table_in, text_in};
@@ -12,7 +12,7 @@ const LINTS: &str = "lints";
 /// The field with the oldest rustc that builds a package.
 const RUST_VERSION: &str = "rust-version";
 
-/// What the root of a workspace has for packages to inherit.
+/// The values of a workspace's root that packages can inherit.
 #[derive(Drop)]
 pub struct Inheritable {
     /// The value of `workspace.lints`.

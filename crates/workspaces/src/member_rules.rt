@@ -1,4 +1,4 @@
-//! What a manifest says of the members of its workspace.
+//! The rules by which a manifest selects the members of its workspace.
 
 ghost use Rattle.std.specs.Prelude.{◌↔◌, IsTrue, IfOk};
 ghost use Rattle.workspaces.specs.Members.{IsExcluded, IsMember};
@@ -6,7 +6,7 @@ ghost use Rattle.workspaces.specs.Members.{IsExcluded, IsMember};
 use crate::patterns::{Pattern, some_takes};
 use std::alloc::{AllocError, Global};
 
-/// What a manifest says of the members of its workspace.
+/// The rules by which a manifest selects the members of its workspace.
 #[derive(Drop)]
 pub struct Rules {
     /// The globs of `members`.

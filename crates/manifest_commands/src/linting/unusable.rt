@@ -1,4 +1,4 @@
-//! What `lint` reports of files that can't be used: these errors have no lint, and the exit status is 2.
+//! The errors that `lint` reports for files that can't be used. They have no lint, and the exit status is 2.
 
 use super::{LintRun, Source};
 use diagnostics::{
