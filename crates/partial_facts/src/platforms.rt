@@ -60,7 +60,7 @@ pub fn residual_platform<K: Knowledge>(
     name: Option<&str>,
     known: &K,
 ) -> Result<Platform, AllocError>
-    // What is known is left out, as the definition says.
+    // The result leaves out what is known, as the definition says.
     ensures exact { IfOk result (λ r.
         condition_of r ≡ residual_condition (option_copied name.entry) (K.told known.now) (condition_of platform.now)) }
     // On each possible target, the residual has the same truth as the whole condition.

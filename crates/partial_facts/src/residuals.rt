@@ -23,7 +23,7 @@ use std::ops::ControlFlow;
 /// remaining member is replaced by that member. The remaining names and pairs are in the order of `e`, with their raw
 /// marks. The result is well-formed if `e` is, so that its text can be parsed back. Fails only if an allocation fails.
 pub fn residual<K: Knowledge>(alloc: Global, e: &CfgExpr, known: &K) -> Result<CfgExpr, AllocError>
-    // What is known is left out, as the definition says.
+    // The result leaves out what is known, as the definition says.
     ensures exact { IfOk result (λ r. tree_of r ≡ residual_tree (K.told known.now) (tree_of e.now)) }
     // On each possible target, the residual has the same truth as the whole condition.
     ensures sound { (s : FactSet) → K.allows known.now s
