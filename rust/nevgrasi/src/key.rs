@@ -11,7 +11,7 @@ use std::hash::{Hash, Hasher};
 use std::ptr;
 use std::str::FromStr;
 
-/// How many case splits a comparison may make before it is undecided.
+/// How many case splits a comparison may make before it is undecided, if its caller names no other number.
 pub const BUDGET: u64 = 10_000;
 
 /// A possible target: its name, if the answer depends on it, and its facts.
@@ -169,7 +169,25 @@ impl Key {
     ///
     /// [`ErrorKind`](crate::ErrorKind)`::Undecided` if it takes more than [`BUDGET`] case splits, and `OutOfMemory`.
     pub fn implies(&self, other: &Key) -> Result<Answer, Error> {
-        self.relates(raw::nevgrasi_implies, other, BUDGET)
+        self.implies_within(other, BUDGET)
+    }
+
+    /// Returns what [`implies`](Key::implies) returns, by at most `budget` case splits.
+    ///
+    /// ```
+    /// use nevgrasi::{ErrorKind, Key};
+    ///
+    /// let (any, all) = (Key::new("cfg(any(a, b))")?, Key::new("cfg(all(c, d))")?);
+    /// assert_eq!(any.implies_within(&all, 0).unwrap_err().kind(), ErrorKind::Undecided);
+    /// assert!(!any.implies_within(&all, 100)?.holds);
+    /// # Ok::<(), nevgrasi::Error>(())
+    /// ```
+    ///
+    /// # Errors
+    ///
+    /// [`ErrorKind`](crate::ErrorKind)`::Undecided` if it takes more than `budget` case splits, and `OutOfMemory`.
+    pub fn implies_within(&self, other: &Key, budget: u64) -> Result<Answer, Error> {
+        self.relates(raw::nevgrasi_implies, other, budget)
     }
 
     /// Returns whether both keys are true on the same targets. A no has an example.
@@ -185,7 +203,16 @@ impl Key {
     ///
     /// As [`implies`](Key::implies).
     pub fn equivalent(&self, other: &Key) -> Result<Answer, Error> {
-        self.relates(raw::nevgrasi_equivalent, other, BUDGET)
+        self.equivalent_within(other, BUDGET)
+    }
+
+    /// Returns what [`equivalent`](Key::equivalent) returns, by at most `budget` case splits.
+    ///
+    /// # Errors
+    ///
+    /// As [`implies_within`](Key::implies_within).
+    pub fn equivalent_within(&self, other: &Key, budget: u64) -> Result<Answer, Error> {
+        self.relates(raw::nevgrasi_equivalent, other, budget)
     }
 
     /// Returns whether no target exists on which both keys are true. A no has an example.
@@ -202,7 +229,16 @@ impl Key {
     ///
     /// As [`implies`](Key::implies).
     pub fn excludes(&self, other: &Key) -> Result<Answer, Error> {
-        self.relates(raw::nevgrasi_excludes, other, BUDGET)
+        self.excludes_within(other, BUDGET)
+    }
+
+    /// Returns what [`excludes`](Key::excludes) returns, by at most `budget` case splits.
+    ///
+    /// # Errors
+    ///
+    /// As [`implies_within`](Key::implies_within).
+    pub fn excludes_within(&self, other: &Key, budget: u64) -> Result<Answer, Error> {
+        self.relates(raw::nevgrasi_excludes, other, budget)
     }
 
     /// Returns whether the key is true for some set of facts that rustc's rules allow. A yes has an example.
@@ -218,10 +254,19 @@ impl Key {
     ///
     /// As [`implies`](Key::implies).
     pub fn can_hold(&self) -> Result<Answer, Error> {
+        self.can_hold_within(BUDGET)
+    }
+
+    /// Returns what [`can_hold`](Key::can_hold) returns, by at most `budget` case splits.
+    ///
+    /// # Errors
+    ///
+    /// As [`implies_within`](Key::implies_within).
+    pub fn can_hold_within(&self, budget: u64) -> Result<Answer, Error> {
         let key = &self.text;
         // SAFETY: as in `new`.
         let (outcome, out) = made(|out, room, outcome| unsafe {
-            raw::nevgrasi_can_hold(key.as_ptr(), key.len(), BUDGET, out, room, outcome)
+            raw::nevgrasi_can_hold(key.as_ptr(), key.len(), budget, out, room, outcome)
         })?;
         check_code(outcome.code)?;
         Answer::new(outcome, &out, true)

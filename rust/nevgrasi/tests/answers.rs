@@ -106,6 +106,19 @@ fn keys_are_compared_over_each_set_of_facts() {
 }
 
 #[test]
+fn comparisons_take_no_more_splits_than_their_budget() {
+    let (any, all) = (key("cfg(any(a, b))"), key("cfg(all(c, d))"));
+    for found in [any.implies_within(&all, 0), any.equivalent_within(&all, 0), any.excludes_within(&all, 0)] {
+        assert_eq!(found.expect_err("an error").kind(), ErrorKind::Undecided);
+    }
+    assert_eq!(any.can_hold_within(0).expect_err("an error").kind(), ErrorKind::Undecided);
+    assert_eq!(any.implies_within(&all, 100), any.implies(&all));
+    assert_eq!(any.equivalent_within(&all, 100), any.equivalent(&all));
+    assert_eq!(any.excludes_within(&all, 100), any.excludes(&all));
+    assert_eq!(any.can_hold_within(100), any.can_hold());
+}
+
+#[test]
 fn what_can_hold_has_an_example() {
     assert_eq!(key("cfg(a)").can_hold().expect("an answer").example.expect("an example").facts, ["a"]);
     assert!(!key("cfg(all(unix, not(unix)))").can_hold().expect("an answer").holds);
