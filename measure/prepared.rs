@@ -1,8 +1,10 @@
-//! Matches each key of a file with the facts of some targets, by the Rust crate and by calls of the library.
+//! Matches each key of a file with the facts of some targets, by the crate cargo-platform, by calls of the library, and
+//! by the crate nevgrasi.
 //!
 //! `measure/prepared` builds and runs this program. It reads keys from the standard input, one per line. For each
-//! target it prints how many facts it has, and nanoseconds for each key: those of the Rust crate, of flat facts and of
-//! prepared facts, the least of all rounds. With the name of a function as its argument, it calls this one once.
+//! target it prints how many facts it has, and nanoseconds for each key: those of cargo-platform, of flat facts, of
+//! prepared facts, and of prepared facts by the crate nevgrasi, the least of all rounds. With the name of a function as
+//! its argument, it calls this one once.
 #[allow(dead_code)]
 mod raw;
 
@@ -41,6 +43,8 @@ struct Work {
     flats: Vec<Vec<u8>>,
     flat_facts: Vec<u8>,
     prepared: Vec<u8>,
+    conditions: Vec<nevgrasi::Condition>,
+    read_facts: nevgrasi::Facts,
 }
 
 #[inline(never)]
@@ -76,8 +80,13 @@ fn by_prepared(work: &Work) -> usize {
     work.flats.iter().filter(is_true).count()
 }
 
-const CALLS: [(&str, fn(&Work) -> usize); 3] =
-    [("by_crate", by_crate), ("by_flat", by_flat), ("by_prepared", by_prepared)];
+#[inline(never)]
+fn by_nevgrasi(work: &Work) -> usize {
+    work.conditions.iter().filter(|it| it.matches(&work.read_facts).expect("an answer")).count()
+}
+
+const CALLS: [(&str, fn(&Work) -> usize); 4] =
+    [("by_crate", by_crate), ("by_flat", by_flat), ("by_prepared", by_prepared), ("by_nevgrasi", by_nevgrasi)];
 
 fn work_of(keys: &[String], lines: &str) -> Work {
     let facts: Vec<Cfg> = lines.lines().map(|it| Cfg::from_str(it).expect("a fact")).collect();
@@ -92,7 +101,14 @@ fn work_of(keys: &[String], lines: &str) -> Work {
             raw::nevgrasi_prepare_facts(lines.as_ptr(), lines.len(), out, room, o)
         }),
         facts,
+        conditions: keys.iter().map(|it| condition(it).expect("a key")).collect(),
+        read_facts: nevgrasi::Facts::new("x", lines).expect("facts"),
     }
+}
+
+/// The condition of a key.
+fn condition(key: &str) -> Result<nevgrasi::Condition, nevgrasi::Error> {
+    nevgrasi::Key::new(key)?.condition()
 }
 
 fn main() {
@@ -110,7 +126,7 @@ fn main() {
             black_box(call(&work));
             return;
         }
-        let mut least = [f64::MAX; 3];
+        let mut least = [f64::MAX; 4];
         for _ in 0..ROUNDS {
             for (place, (_, call)) in CALLS.iter().enumerate() {
                 let start = Instant::now();
@@ -120,6 +136,7 @@ fn main() {
                 least[place] = least[place].min(time / f64::from(TIMES) / keys.len() as f64);
             }
         }
-        println!("{}\t{:.1}\t{:.1}\t{:.1}", work.facts.len(), least[0], least[1], least[2]);
+        let times: Vec<String> = least.iter().map(|it| format!("{it:.1}")).collect();
+        println!("{}\t{}", work.facts.len(), times.join("\t"));
     }
 }
