@@ -16,7 +16,8 @@ use Rattle.manifest_lints_findings.specs.declared.known_keys.KnownKey.{KnownKey}
 use Rattle.manifest_lints_findings.specs.declared.readings.ReadKey.{ReadKey}
 use Rattle.manifest_lints_findings.specs.Codes.{CodeSet, finding_level}
 use Rattle.manifest_lints_findings.specs.Marks.{Mark, mark}
-use Rattle.manifest_lints_findings.specs.Messages.{NamesKey, Shows, noted_texts, help_texts, said}
+use Rattle.manifest_lints_findings.specs.Messages.{Shows, noted_texts, help_texts, said}
+use Rattle.manifest_lints_findings.specs.Pointed.{Names, PointsTo}
 use Rattle.manifest_lints_findings.specs.Texts.{Mentions}
 use Rattle.manifest_lints_findings.specs.Shown.{IsMended, IsShownOn}
 use Rattle.manifest_lints_findings.specs.Spells.{entry_read}
@@ -59,12 +60,12 @@ module _ (reads : List ReadKey) (i : ℕ) (d : ReadKey) (within : i < length rea
 
   names_by : (o : Option ℕ) (f : Finding) → IfSome o (λ n. n < length (map entry_read (take i reads)))
       → IfSome o (λ n. n < length reads → (e : Entry) → other ≡ (get_or (map entry_read reads) n e).0)
-      → NamesKey f.code other (string_bytes f.message)
+      → Names f.code other f
       → IfSome o (λ n. (e : Entry)
-      → NamesKey f.code (get_or (map entry_read (take i reads)) n e).0 (string_bytes f.message))
+      → Names f.code (get_or (map entry_read (take i reads)) n e).0 f)
   names_by (Some n) f before is names = λ e.
       let at : n < i = subst (λ m. n < m) long before in
-      subst (λ t. NamesKey f.code t (string_bytes f.message))
+      subst (λ t. Names f.code t f)
       (is (omega arith) e ∙ ap (λ (x : Entry). x.0) (before_is n e before)) names
   names_by None f before is names = tt
 
@@ -83,7 +84,7 @@ module _ (reads : List ReadKey) (i : ℕ) (d : ReadKey) (within : i < length rea
       let es = map entry_read (take i reads) in
       let told : AreTold ds es (entry_read x) codes earlier adds.added = record {
         marks_are = adds.marks_are ∙ ap (λ n. told_marks n codes) (sym long);
-        named = All-weaker (λ f. NamesKey f.code other (string_bytes f.message)) (NamesEarlier es earlier)
+        named = All-weaker (λ f. Names f.code other f) (NamesEarlier es earlier)
             (λ f names. names_by (named_place earlier) f (found_within k ds es before_open (entry_read x) codes
             earlier is_open found) other_is names) adds.added adds.named;
         key = key;
@@ -108,7 +109,7 @@ adds_none other key fs = record {
   added = [];
   are = sym (append-nil fs);
   marks_are = refl;
-  named = All-nil (λ f. NamesKey f.code other (string_bytes f.message));
+  named = All-nil (λ f. Names f.code other f);
   shown = All-nil (ShowsKey key);
 }
 
@@ -118,7 +119,7 @@ adds_more ms ns other key fs gs hs a b = record {
   added = a.added ++ b.added;
   are = b.are ∙ ap (λ zs. zs ++ b.added) a.are ∙ append_assoc fs a.added b.added;
   marks_are = map-append mark a.added b.added ∙ (λ j. a.marks_are j ++ b.marks_are j);
-  named = All-append (λ f. NamesKey f.code other (string_bytes f.message)) a.added b.added a.named b.named;
+  named = All-append (λ f. Names f.code other f) a.added b.added a.named b.named;
   shown = All-append (ShowsKey key) a.added b.added a.shown b.shown;
 }
 
@@ -160,24 +161,33 @@ all_codes p n i cs other key init new done =
 
 pub one_told : (fs gs : List Finding) (f : Finding) (b : Bool) (m : Mark) (other : List ℕ) (key : KnownKey)
     → gs ≡ fs ++ f ∷ []
-    → mark f ≡ m → b ≡ true → NamesKey m.1 other (string_bytes f.message)
+    → mark f ≡ m → b ≡ true → Names m.1 other f
     → f.level ≡ finding_level m.1 (length key.predicates.items)
     → Shows m.1 key (string_bytes f.message)
     → Mentions (noted_texts m.1 key) (said f.children.notes.items)
     → Mentions (help_texts m.1 key f.suggestion) (said f.children.helps.items)
     → IsShownOn m.1 key f
+    → PointsTo m.1 key f.pointed
     → IfSome f.suggestion (λ s. IsMended m.1 (string_bytes s))
     → AddsFindings (cond b (m ∷ []) []) other key fs gs
-one_told fs gs f b m other key pushed is told names level shows notes helps shown mended = record {
+one_told fs gs f b m other key pushed is told names level shows notes helps shown points mended = record {
   added = f ∷ [];
   are = pushed;
   marks_are = ap (λ y. y ∷ []) is ∙ sym (ap (λ c. cond c (m ∷ []) []) told);
-  named = All-push (λ g. NamesKey g.code other (string_bytes g.message)) [] f
-      (All-nil (λ g. NamesKey g.code other (string_bytes g.message)))
-      (subst (λ c. NamesKey c other (string_bytes f.message)) (sym (ap (λ (x : Mark). x.1) is)) names);
+  named = All-push (λ g. Names g.code other g) [] f
+      (All-nil (λ g. Names g.code other g))
+      (subst (λ c. Names c other f) (sym (ap (λ (x : Mark). x.1) is)) names);
   shown = All-push (ShowsKey key) [] f (All-nil (ShowsKey key))
       (subst (λ c. IsDiagnosticOn c key f) (sym (ap (λ (x : Mark). x.1) is))
-      (record { level = level; message = shows; notes = notes; helps = helps; shown = shown; suggestion = mended }));
+      (record {
+        level = level;
+        message = shows;
+        notes = notes;
+        helps = helps;
+        shown = shown;
+        pointed = points;
+        suggestion = mended;
+      }));
 }
 
 pub none_told : (fs : List Finding) (b : Bool) (m : Mark) (other : List ℕ) (key : KnownKey) → b ≡ false

@@ -2,7 +2,7 @@
 use Rattle.std.specs.Prelude.{◌≡◌, [], ◌∷◌, codes, map}
 use Rattle.partial_facts.specs.declared.one_valued.TheConstants.{ONE_VALUED}
 use Rattle.manifest_lints.specs.declared.at_targets.TheConstants.{MANY, SPLITS_AT}
-use Rattle.manifest_lints.specs.declared.deciding.TheConstants.{FEW, LEVELS}
+use Rattle.manifest_lints.specs.declared.deciding.TheConstants.{FEW, LEVELS, SPLITS}
 use Rattle.manifest_lints.specs.declared.earlier.TheConstants.{MOST, WORK}
 
 -- the keys for which rustc sets at most one value
@@ -27,3 +27,7 @@ AreCompared = (MOST ≡ 64) × (WORK ≡ 1048576)
 -- the number of facts of a condition that are few, and of case splits on a known target
 abbrev pub AreFewAt : Type 0
 AreFewAt = (FEW ≡ 64) × (SPLITS_AT ≡ 64)
+
+-- the number of case splits of a search over sets of facts, for a condition with few facts
+abbrev pub AreSplits : Type 0
+AreSplits = SPLITS ≡ 1024

@@ -25,7 +25,8 @@ use Rattle.manifest_lints_findings.specs.declared.known_keys.KnownKey.{KnownKey}
 use Rattle.manifest_lints_findings.specs.declared.readings.ReadKey.{ReadKey}
 use Rattle.manifest_lints_findings.specs.Known.{has_marked_literal, IsKnown}
 use Rattle.manifest_lints_findings.specs.Marks.{Mark, marks}
-use Rattle.manifest_lints_findings.specs.Messages.{NamesKey, Shows, noted_texts, help_texts, said}
+use Rattle.manifest_lints_findings.specs.Messages.{Shows, noted_texts, help_texts, said}
+use Rattle.manifest_lints_findings.specs.Pointed.{Names, PointsTo, IsOnTarget}
 use Rattle.manifest_lints_findings.specs.Texts.{Mentions}
 use Rattle.manifest_lints_findings.specs.NoTables.{is_no_table}
 use Rattle.manifest_lints_findings.specs.Shown.{IsMended, IsShownOn}
@@ -139,10 +140,9 @@ told_marks n codes = map (λ c. (Some n, c)) (told_codes codes)
 abbrev pub left_open : ℕ → Bool → List ℕ
 left_open n is_open = cond is_open (n ∷ []) []
 
--- the message of a diagnostic `same` or `equivalent` ends with the text of the key at the index that is named
+-- a diagnostic `same` or `equivalent` names the key at the index of the earlier one, and points to it
 abbrev pub NamesEarlier : List Entry → Earlier → Finding → Type 0
-NamesEarlier es earlier f =
-    IfSome (named_place earlier) (λ n. (d : Entry) → NamesKey f.code (get_or es n d).0 (string_bytes f.message))
+NamesEarlier es earlier f = IfSome (named_place earlier) (λ n. (d : Entry) → Names f.code (get_or es n d).0 f)
 
 -- the properties of a key by itself, given the declarations
 pub record IsKnownOf (ds : List DeclaredEntry) (e : Entry) (key : KnownKey) : Type 0 where
@@ -151,15 +151,17 @@ pub record IsKnownOf (ds : List DeclaredEntry) (e : Entry) (key : KnownKey) : Ty
   pub spells : IsRead read
   pub known : IsKnown ds read key
 
--- the diagnostic of a lint on a key has the level of the lint, and a message with the names and numbers of the key's
--- properties; its notes have Cargo's warnings, and its helps the suggestion; it has the position of the key's error if
--- the key is rejected; and it has a suggestion only if the lint reports nothing on that
+-- the diagnostic of a lint on a key has the level of the lint, and the message of the lint on the key's properties; its
+-- notes have Cargo's warnings, and its helps the suggestion; it has the position of the key's error if the key is
+-- rejected, and else points to the names, pairs and fields that the lint is about; and it has a suggestion only if the
+-- lint reports nothing on that
 pub record IsDiagnosticOn (c : Code) (key : KnownKey) (f : Finding) : Type 0 where
   pub level : f.level ≡ finding_level c (length key.predicates.items)
   pub message : Shows c key (string_bytes f.message)
   pub notes : Mentions (noted_texts c key) (said f.children.notes.items)
   pub helps : Mentions (help_texts c key f.suggestion) (said f.children.helps.items)
   pub shown : IsShownOn c key f
+  pub pointed : PointsTo c key f.pointed
   pub suggestion : IfSome f.suggestion (λ s. IsMended c (string_bytes s))
 
 abbrev pub ShowsKey : KnownKey → Finding → Type 0
@@ -193,7 +195,7 @@ pub record AddsFindings (ms : List Mark) (other : List ℕ) (key : KnownKey) (ol
   pub added : List Finding
   pub are : new ≡ old ++ added
   pub marks_are : marks added ≡ ms
-  pub named : All (λ f. NamesKey f.code other (string_bytes f.message)) added
+  pub named : All (λ f. Names f.code other f) added
   pub shown : All (ShowsKey key) added
 
 -- ---- the report
@@ -214,5 +216,5 @@ IsReportOf ms r = (r.keys.items ≡ []) × (marks r.findings.items ≡ ms) × (r
 -- for a manifest, by the value of its `target`: a table, none, or not a table
 abbrev pub IsReport : Members → Option (Option (List Entry)) → Report → Type 0
 IsReport ms (Some (Some es)) r = IsReportOn ms es r
-IsReport ms (Some None) r = IsReportOf ((None, code.NoTable) ∷ []) r
+IsReport ms (Some None) r = IsReportOf ((None, code.NoTable) ∷ []) r × All IsOnTarget r.findings.items
 IsReport ms None r = IsReportOf [] r

@@ -1,8 +1,9 @@
--- The lints by value.
+-- The lints, and how many items of a list are printed, by value.
 use Rattle.std.specs.Prelude.{◌≡◌, List, [], ◌∷◌}
 use Rattle.manifest_lints_findings.specs.declared.codes.Code.{Code}
 use Rattle.manifest_lints_findings.specs.declared.codes.Code.TheVariants as code
 use Rattle.manifest_lints_findings.specs.declared.codes.TheConstants.{CODES}
+use Rattle.manifest_lints_findings.specs.declared.wording.TheConstants.{TOLD}
 
 -- all lints, each once, in the order in which they are reported for one key
 abbrev pub all_codes : List Code
@@ -13,3 +14,7 @@ all_codes =
 
 abbrev pub AreAllCodes : Type 0
 AreAllCodes = CODES ≡ all_codes
+
+-- the number of items of a list that are printed
+abbrev pub AreTold : Type 0
+AreTold = TOLD ≡ 3

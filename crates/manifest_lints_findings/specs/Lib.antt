@@ -9,3 +9,4 @@ pub mod Laws
 pub mod Texts
 pub mod Chosen
 pub mod Messages
+pub mod Pointed

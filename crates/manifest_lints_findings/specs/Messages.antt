@@ -1,5 +1,6 @@
--- The names and numbers that a message, its notes and its helps contain, by the lint. The words between them are free.
-use Rattle.std.specs.Prelude.{ℕ, Bool, false, not, ◌&&◌, List, [], ◌∷◌, ◌++◌, codes, cond, nat_eq, take, string_bytes}
+-- The message of each lint by value, and the names and numbers that its notes and its helps contain. The words between
+-- those are free.
+use Rattle.std.specs.Prelude.{◌≡◌, ℕ, Bool, false, not, ◌&&◌, List, [], ◌∷◌, ◌++◌, codes, cond, nat_eq, take, string_bytes}
 use Rattle.std.specs.Prelude.{flat_map}
 use Rattle.std.specs.Prelude.{String}
 use Rattle.std.specs.Prelude.{Option, Some, None}
@@ -12,8 +13,8 @@ use Rattle.known_targets.specs.declared.table.TheConstants.{RUSTC_VERSION}
 use Rattle.manifest_lints_standings.specs.declared.key_predicates.KeyPredicate.{KeyPredicate}
 use Rattle.manifest_lints_standings.specs.declared.standing.Sort.TheVariants as sort
 use Rattle.manifest_lints_findings.specs.Chosen.{chosen, fact_text, warnings_on}
-use Rattle.manifest_lints_findings.specs.Texts.{shown_whole, shown_cut, quoted_text, EndsWith, Mentions, and_more}
-use Rattle.manifest_lints_findings.specs.Texts.{joined_first, first_texts}
+use Rattle.manifest_lints_findings.specs.Texts.{shown_whole, shown_cut, quoted_text, Mentions, and_more}
+use Rattle.manifest_lints_findings.specs.Texts.{joined_first, both_texts}
 use Rattle.manifest_lints_findings.specs.declared.chosen.Choice.TheVariants as choice
 use Rattle.manifest_lints_findings.specs.declared.codes.Code.{Code}
 use Rattle.manifest_lints_findings.specs.declared.codes.Code.TheVariants as code
@@ -23,30 +24,43 @@ use Rattle.manifest_lints_findings.specs.declared.readings.Spelled.{Spelled}
 use Rattle.manifest_lints_findings.specs.declared.readings.Spelled.TheVariants as spelled
 use Rattle.manifest_lints_findings.specs.declared.wording.TheConstants.{TOLD}
 
--- the message about a key that is the same or equivalent ends with the earlier key
-abbrev pub NamesKey : Code → List ℕ → List ℕ → Type 0
-NamesKey code.Same key message = EndsWith (quoted_text key) message
-NamesKey code.Equivalent key message = EndsWith (quoted_text key) message
-NamesKey _ key message = Unit {0}
-
--- ---- what is shown of the key itself
+-- ---- parts of messages
 
 -- the first names and pairs in backquotes, and the number of the others
-abbrev pub listing : List KeyPredicate → List (List ℕ)
-listing fs = first_texts fact_text fs
+abbrev pub listing : List KeyPredicate → List ℕ
+listing fs = joined_first fact_text (codes ", ") fs
 
--- the same after rustc's version, if there are some
-abbrev pub listing_of_version : List KeyPredicate → List (List ℕ)
-listing_of_version [] = []
-listing_of_version (f ∷ fs) = RUSTC_VERSION.now ∷ listing (f ∷ fs)
+abbrev pub no_target : List ℕ
+no_target = codes "no target that rustc " ++ (RUSTC_VERSION.now ++ codes " knows")
 
--- the mistaken names and pairs, those that are not features first
-abbrev pub mistakes_in : List KeyPredicate → List (List ℕ)
-mistakes_in fs = listing_of_version (chosen choice.NoFeature fs) ++ listing_of_version (chosen choice.Feature fs)
+abbrev pub every_target : List ℕ
+every_target = codes "the condition is true on every target that rustc " ++ (RUSTC_VERSION.now ++ codes " knows")
 
--- the custom ones, those that only unstable features set last
-abbrev pub custom_in : List KeyPredicate → List (List ℕ)
-custom_in fs = listing_of_version (chosen choice.Stable fs) ++ listing_of_version (chosen choice.Unstable fs)
+abbrev pub only_unstable : List KeyPredicate → List ℕ
+only_unstable fs = listing fs ++ codes " only with unstable features"
+
+-- the sentences on names and pairs that no target has, on features that no architecture has, and on names and pairs
+-- that only unstable features set; each is empty without such names and pairs
+abbrev pub lacking_text : List KeyPredicate → List ℕ
+lacking_text [] = []
+lacking_text (f ∷ fs) = no_target ++ (codes " has " ++ listing (f ∷ fs))
+
+abbrev pub features_text : List KeyPredicate → List ℕ
+features_text [] = []
+features_text (f ∷ fs) =
+    codes "no architecture that rustc " ++ (RUSTC_VERSION.now ++ (codes " knows has " ++ listing (f ∷ fs)))
+
+abbrev pub unstable_text : List KeyPredicate → List ℕ
+unstable_text [] = []
+unstable_text (f ∷ fs) = codes "rustc " ++ (RUSTC_VERSION.now ++ (codes " prints " ++ only_unstable (f ∷ fs)))
+
+-- on the mistaken names and pairs, those that are not features first
+abbrev pub mistakes_text : List KeyPredicate → List ℕ
+mistakes_text fs = both_texts (lacking_text (chosen choice.NoFeature fs)) (features_text (chosen choice.Feature fs))
+
+-- on the custom ones, those that only unstable features set last
+abbrev pub custom_text : List KeyPredicate → List ℕ
+custom_text fs = both_texts (lacking_text (chosen choice.Stable fs)) (unstable_text (chosen choice.Unstable fs))
 
 -- a key that begins with `cfg(` and does not end with `)`
 abbrev pub is_unclosed : List ℕ → Bool
@@ -58,20 +72,23 @@ reason_of key e =
     cond (is_unclosed key) (codes "it begins with `cfg(` and does not end with `)`")
     (shown_cut (print_fault (fault_in e)))
 
-abbrev pub fault_shown : List ℕ → Spelled → List (List ℕ)
-fault_shown key (spelled.Refused e) = reason_of key e ∷ []
-fault_shown key (spelled.Condition p) = []
-fault_shown key (spelled.ByCargo m) = []
+abbrev pub fault_text : List ℕ → Spelled → List ℕ
+fault_text key (spelled.Refused e) = reason_of key e
+fault_text key (spelled.Condition p) = []
+fault_text key (spelled.ByCargo m) = []
 
 -- Cargo's first warnings on the key, and the number of the others
 abbrev pub cargo_words : Marked → List ℕ
 cargo_words m = shown_whole (join_by (λ s. string_bytes s) (codes " ") (take TOLD m.warnings.items) ++ and_more m.count)
 
 -- the names that lose their raw mark, unless only Cargo accepts the key
-abbrev pub read_otherwise : Spelled → List KeyPredicate → List (List ℕ)
-read_otherwise (spelled.ByCargo m) fs = []
-read_otherwise (spelled.Condition p) fs = listing (chosen choice.Literal fs)
-read_otherwise (spelled.Refused e) fs = listing (chosen choice.Literal fs)
+abbrev pub unmarked_text : List KeyPredicate → List ℕ
+unmarked_text fs = codes "Cargo reads " ++ (listing (chosen choice.Literal fs) ++ codes " without the raw mark")
+
+abbrev pub read_otherwise : Spelled → List KeyPredicate → List ℕ
+read_otherwise (spelled.ByCargo m) fs = codes "Cargo accepts the key with a warning"
+read_otherwise (spelled.Condition p) fs = unmarked_text fs
+read_otherwise (spelled.Refused e) fs = unmarked_text fs
 
 -- Cargo's warnings on it, if only Cargo accepts the key
 abbrev pub cargo_noted : Spelled → List (List ℕ)
@@ -88,22 +105,35 @@ abbrev pub meant_shown : Option (String Global) → List (List ℕ)
 meant_shown (Some s) = quoted_text (string_bytes s) ∷ []
 meant_shown None = []
 
--- the texts in the message of a diagnostic of this lint on a key
-abbrev pub shown_texts : Code → KnownKey → List (List ℕ)
-shown_texts code.Refused k = fault_shown k.read.now.text.now k.read.now.spelled
-shown_texts code.NoTable k = first_texts (λ s. string_bytes s) k.no_tables.items
-shown_texts code.ReadOtherwise k = read_otherwise k.read.now.spelled k.predicates.items
-shown_texts code.Unsupported k = listing (chosen (choice.OfSort sort.Unsupported) k.predicates.items)
-shown_texts code.UnknownTarget k = RUSTC_VERSION.now ∷ []
-shown_texts code.UnknownFact k = mistakes_in (chosen (choice.OfSort sort.Mistaken) k.predicates.items)
-shown_texts code.Nowhere k = RUSTC_VERSION.now ∷ []
-shown_texts code.Everywhere k = RUSTC_VERSION.now ∷ []
-shown_texts code.Custom k = custom_in (chosen (choice.OfSort sort.Custom) k.predicates.items)
-shown_texts _ k = []
+-- ---- the message
 
--- the message contains these texts in this order
+-- the message about a key that is the same or equivalent, which ends with the earlier key
+abbrev pub NamesKey : Code → List ℕ → List ℕ → Type 0
+NamesKey code.Same key message = message ≡ codes "the same condition as the earlier key " ++ quoted_text key
+NamesKey code.Equivalent key message = message ≡ codes "equivalent to the earlier key " ++ quoted_text key
+NamesKey _ key message = Unit {0}
+
+-- the message about any other key
 abbrev pub Shows : Code → KnownKey → List ℕ → Type 0
-Shows c k message = Mentions (shown_texts c k) message
+Shows code.Refused k message =
+    message ≡ codes "invalid key: " ++ fault_text k.read.now.text.now k.read.now.spelled
+Shows code.NoTable k message = message ≡ joined_first (λ s. string_bytes s) (codes ", ") k.no_tables.items
+Shows code.ReadOtherwise k message = message ≡ read_otherwise k.read.now.spelled k.predicates.items
+Shows code.Unsupported k message =
+    message
+    ≡ codes "Cargo does not set "
+    ++ (listing (chosen (choice.OfSort sort.Unsupported) k.predicates.items) ++ codes " when it selects dependencies")
+Shows code.Never k message = message ≡ codes "no set of facts makes the condition true"
+Shows code.UnknownTarget k message = message ≡ no_target ++ codes " has this name"
+Shows code.UnknownFact k message =
+    message ≡ mistakes_text (chosen (choice.OfSort sort.Mistaken) k.predicates.items)
+Shows code.Nowhere k message = message ≡ no_target ++ codes " has facts that make the condition true"
+Shows code.Same k message = Unit {0}
+Shows code.Equivalent k message = Unit {0}
+Shows code.Always k message = message ≡ codes "every set of facts makes the condition true"
+Shows code.Everywhere k message = message ≡ every_target
+Shows code.Custom k message = message ≡ custom_text (chosen (choice.OfSort sort.Custom) k.predicates.items)
+Shows code.NotCanonical k message = message ≡ codes "the key is not in canonical form"
 
 -- ---- the notes and helps beside the message, each one after the other
 

@@ -18,13 +18,11 @@ shown_cut text = shown_line (chars text) 0 0
 abbrev pub quoted_text : List ℕ → List ℕ
 quoted_text text = codes "`" ++ shown_cut text ++ codes "`"
 
--- the message ends with the text
-abbrev pub EndsWith : List ℕ → List ℕ → Type 0
-EndsWith text message = (words : List ℕ) × (message ≡ words ++ text)
-
--- one text follows another, with words between them
-abbrev pub FollowsIn : List ℕ → List ℕ → List ℕ → Type 0
-FollowsIn message first second = (words : List ℕ) × (message ≡ first ++ (words ++ second))
+-- two texts with a semicolon between them, or the only one that is not empty
+abbrev pub both_texts : List ℕ → List ℕ → List ℕ
+both_texts [] second = second
+both_texts (c ∷ first) [] = c ∷ first
+both_texts (c ∷ first) (d ∷ second) = (c ∷ first) ++ (codes "; " ++ (d ∷ second))
 
 -- the message contains the text, followed by this rest
 pub record StandsIn (text message rest : List ℕ) : Type 0 where
@@ -45,7 +43,3 @@ and_more all = cond (nat_lt TOLD all) (codes " and " ++ (decimal (all - TOLD) ++
 -- the texts of the first ones with a separator between them, and the number of the others
 abbrev pub joined_first : {X : Type 0} → (X → List ℕ) → List ℕ → List X → List ℕ
 joined_first text mark xs = join_by text mark (take TOLD xs) ++ and_more (length xs)
-
--- the same, as texts
-abbrev pub first_texts : {X : Type 0} → (X → List ℕ) → List X → List (List ℕ)
-first_texts text xs = map text (take TOLD xs) ++ (and_more (length xs) ∷ [])

@@ -2,6 +2,7 @@
 
 ghost use Rattle.std.specs.Prelude.{◌≡◌, IfOk, None};
 ghost use Rattle.manifest_lints_findings.specs.Marks.{mark};
+ghost use Rattle.manifest_lints_findings.specs.Pointed.{IsOnTarget};
 
 use crate::codes::{Code, Level};
 use crate::notes_and_helps::Children;
@@ -48,7 +49,8 @@ pub struct Report<'a> {
 
 /// Returns the diagnostic on a `target` that is not a table. Fails if memory is refused.
 pub fn target_is_no_table(alloc: Global) -> Result<Finding, AllocError>
-    ensures { IfOk result (λ f. mark f ≡ (None, Code.NoTable)) }
+    ensures mark { IfOk result (λ f. mark f ≡ (None, Code.NoTable)) }
+    ensures parts { IfOk result IsOnTarget }
 {
     Ok(Finding {
         level: Code::NoTable.row().level,

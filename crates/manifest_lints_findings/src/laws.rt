@@ -1,8 +1,13 @@
-//! Laws about the definitions. The function does nothing: its contract is the law.
+//! Laws about the definitions. The functions do nothing: their contracts are the laws.
 
-ghost use Rattle.manifest_lints_findings.specs.Laws.{AreAllCodes};
+ghost use Rattle.manifest_lints_findings.specs.Laws.{AreAllCodes, AreTold};
 
 /// `CODES` contains all lints, each once, in the order in which they are reported.
 pub fn codes()
     ensures { AreAllCodes }
+{}
+
+/// At most three items of a list are printed.
+pub fn told()
+    ensures { AreTold }
 {}

@@ -3,7 +3,8 @@
 ghost use Rattle.std.specs.Prelude.{◌≡◌, IfOk, IfSome, Some, length, string_bytes};
 ghost use Rattle.manifest_lints_findings.specs.Codes.{finding_level};
 ghost use Rattle.manifest_lints_findings.specs.Marks.{mark};
-ghost use Rattle.manifest_lints_findings.specs.Messages.{NamesKey, Shows, noted_texts, help_texts, said};
+ghost use Rattle.manifest_lints_findings.specs.Messages.{Shows, noted_texts, help_texts, said};
+ghost use Rattle.manifest_lints_findings.specs.Pointed.{Names, PointsTo};
 ghost use Rattle.manifest_lints_findings.specs.Texts.{Mentions};
 ghost use Rattle.manifest_lints_findings.specs.Shown.{IsShownOn, IsMended};
 
@@ -51,7 +52,8 @@ pub fn finding_on(
 ) -> Result<Finding, AllocError>
     ensures mark { IfOk result (λ f. mark f ≡ (Some key.now.place, code)) }
     ensures level { IfOk result (λ f. f.level ≡ finding_level code (length key.now.predicates.items)) }
-    ensures named { IfOk result (λ f. NamesKey code other.now (string_bytes f.message)) }
+    ensures named { IfOk result (λ f. Names code other.now f) }
+    ensures pointed { IfOk result (λ f. PointsTo code key.now f.pointed) }
     ensures tells { IfOk result (λ f. Shows code key.now (string_bytes f.message)) }
     ensures notes { IfOk result (λ f. Mentions (noted_texts code key.now) (said f.children.notes.items)) }
     ensures helps { IfOk result

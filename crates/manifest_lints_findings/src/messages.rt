@@ -1,12 +1,10 @@
 //! The messages of the diagnostics, lint by lint.
 
-ghost use Rattle.std.specs.Prelude.{◌≡◌, ◌++◌, ◌∷◌, [], IfOk, string_bytes};
-ghost use Rattle.known_targets.specs.declared.table.TheConstants.{RUSTC_VERSION};
-ghost use Rattle.manifest_lints_findings.specs.Chosen.{chosen};
-ghost use Rattle.manifest_lints_findings.specs.Messages.{NamesKey, Shows, listing, listing_of_version};
-ghost use Rattle.manifest_lints_findings.specs.Messages.{mistakes_in, custom_in, fault_shown, read_otherwise};
-ghost use Rattle.manifest_lints_findings.specs.Messages.{is_unclosed, reason_of};
-ghost use Rattle.manifest_lints_findings.specs.Texts.{quoted_text, first_texts, EndsWith, Mentions};
+ghost use Rattle.std.specs.Prelude.{◌≡◌, ◌++◌, IfOk, codes, string_bytes};
+ghost use Rattle.manifest_lints_findings.specs.Messages.{NamesKey, Shows, no_target, every_target, lacking_text};
+ghost use Rattle.manifest_lints_findings.specs.Messages.{features_text, only_unstable, unstable_text, fault_text};
+ghost use Rattle.manifest_lints_findings.specs.Messages.{unmarked_text, is_unclosed, reason_of};
+ghost use Rattle.manifest_lints_findings.specs.Texts.{quoted_text};
 
 use crate::chosen::{Choice, chosen};
 use crate::codes::Code;
@@ -50,7 +48,7 @@ pub fn message_of(
 
 /// Returns `words` followed by the text in backquotes.
 fn behind_words(alloc: Global, words: &str, text: &str) -> Result<String, AllocError>
-    ensures { IfOk result (λ message. EndsWith (quoted_text text.now) (string_bytes message)) }
+    ensures { IfOk result (λ message. string_bytes message ≡ words.now ++ quoted_text text.now) }
 {
     let text = quoted(alloc, text)?;
     format!(in alloc; "{words}{text}")
@@ -58,15 +56,14 @@ fn behind_words(alloc: Global, words: &str, text: &str) -> Result<String, AllocE
 
 /// Returns `no target that rustc .. knows`, with the release.
 fn no_target(alloc: Global) -> Result<String, AllocError>
-    ensures { IfOk result (λ s. Mentions (RUSTC_VERSION.now ∷ []) (string_bytes s)) }
+    ensures { IfOk result (λ s. string_bytes s ≡ no_target) }
 {
     format!(in alloc; "no target that rustc {RUSTC_VERSION} knows")
 }
 
 /// Returns the message for the parts of a key's value that are not tables.
 fn no_table_message(alloc: Global, key: &KnownKey<'_>) -> Result<String, AllocError>
-    ensures { IfOk result
-        (λ s. Mentions (first_texts (λ t. string_bytes t) key.now.no_tables.items) (string_bytes s)) }
+    ensures { IfOk result (λ s. Shows Code.NoTable key.now (string_bytes s)) }
 {
     joined(alloc, &key.no_tables, key.no_tables.len(), ", ")
 }
@@ -92,7 +89,7 @@ fn reason_of(alloc: Global, key: &str, error: &ParseError) -> Result<String, All
 
 /// Returns the reason why a key is rejected.
 fn fault_of(alloc: Global, key: &str, spelled: &Spelled) -> Result<String, AllocError>
-    ensures { IfOk result (λ s. Mentions (fault_shown key.now spelled.now) (string_bytes s)) }
+    ensures { IfOk result (λ s. string_bytes s ≡ fault_text key.now spelled.now) }
 {
     match spelled {
         Spelled::Refused(error) => reason_of(alloc, key, error),
@@ -102,8 +99,7 @@ fn fault_of(alloc: Global, key: &str, spelled: &Spelled) -> Result<String, Alloc
 
 /// Returns the message for a rejected key.
 fn refused_message(alloc: Global, key: &KnownKey<'_>) -> Result<String, AllocError>
-    ensures { IfOk result (λ s. Mentions
-        (fault_shown key.now.read.now.text.now key.now.read.now.spelled) (string_bytes s)) }
+    ensures { IfOk result (λ s. Shows Code.Refused key.now (string_bytes s)) }
 {
     let fault = fault_of(alloc, key.read.text, &key.read.spelled)?;
     format!(in alloc; "invalid key: {fault}")
@@ -111,7 +107,7 @@ fn refused_message(alloc: Global, key: &KnownKey<'_>) -> Result<String, AllocErr
 
 /// Returns the message for a key in which Cargo reads names without their raw marks.
 fn unmarked_message(alloc: Global, key: &KnownKey<'_>) -> Result<String, AllocError>
-    ensures { IfOk result (λ s. Mentions (listing (chosen Choice.Literal key.now.predicates.items)) (string_bytes s)) }
+    ensures { IfOk result (λ s. string_bytes s ≡ unmarked_text key.now.predicates.items) }
 {
     let literals = chosen(alloc, &key.predicates, Choice::Literal)?;
     let names = listed(alloc, &literals)?;
@@ -121,8 +117,7 @@ fn unmarked_message(alloc: Global, key: &KnownKey<'_>) -> Result<String, AllocEr
 /// Returns the message for a key that Cargo reads otherwise: only Cargo accepts it, or Cargo reads names without their
 /// raw marks.
 fn read_otherwise_message(alloc: Global, key: &KnownKey<'_>) -> Result<String, AllocError>
-    ensures { IfOk result (λ s. Mentions
-        (read_otherwise key.now.read.now.spelled key.now.predicates.items) (string_bytes s)) }
+    ensures { IfOk result (λ s. Shows Code.ReadOtherwise key.now (string_bytes s)) }
 {
     match &key.read.spelled {
         Spelled::ByCargo(_) => String::from_str(alloc, "Cargo accepts the key with a warning"),
@@ -132,8 +127,7 @@ fn read_otherwise_message(alloc: Global, key: &KnownKey<'_>) -> Result<String, A
 
 /// Returns the message for facts that Cargo does not set when it selects dependencies.
 fn unsupported_message(alloc: Global, key: &KnownKey<'_>) -> Result<String, AllocError>
-    ensures { IfOk result (λ s. Mentions
-        (listing (chosen (Choice.OfSort Sort.Unsupported) key.now.predicates.items)) (string_bytes s)) }
+    ensures { IfOk result (λ s. Shows Code.Unsupported key.now (string_bytes s)) }
 {
     let facts = chosen(alloc, &key.predicates, Choice::OfSort(Sort::Unsupported))?;
     let names = listed(alloc, &facts)?;
@@ -142,7 +136,7 @@ fn unsupported_message(alloc: Global, key: &KnownKey<'_>) -> Result<String, Allo
 
 /// Returns the message for a name that no known target has.
 fn unknown_target_message(alloc: Global) -> Result<String, AllocError>
-    ensures { IfOk result (λ s. Mentions (RUSTC_VERSION.now ∷ []) (string_bytes s)) }
+    ensures { IfOk result (λ s. string_bytes s ≡ no_target ++ codes " has this name") }
 {
     let unknown = no_target(alloc)?;
     format!(in alloc; "{unknown} has this name")
@@ -150,7 +144,7 @@ fn unknown_target_message(alloc: Global) -> Result<String, AllocError>
 
 /// Returns the message for facts that no known target has, or the empty text if there are none.
 fn lacking_told(alloc: Global, facts: &[KeyPredicate<'_>]) -> Result<String, AllocError>
-    ensures { IfOk result (λ s. Mentions (listing_of_version facts.now) (string_bytes s)) }
+    ensures { IfOk result (λ s. string_bytes s ≡ lacking_text facts.now) }
 {
     if facts.is_empty() {
         return Ok(String::new(alloc));
@@ -162,7 +156,7 @@ fn lacking_told(alloc: Global, facts: &[KeyPredicate<'_>]) -> Result<String, All
 
 /// Returns the message for mistaken features, or the empty text if there are none.
 fn features_told(alloc: Global, features: &[KeyPredicate<'_>]) -> Result<String, AllocError>
-    ensures { IfOk result (λ s. Mentions (listing_of_version features.now) (string_bytes s)) }
+    ensures { IfOk result (λ s. string_bytes s ≡ features_text features.now) }
 {
     if features.is_empty() {
         return Ok(String::new(alloc));
@@ -173,8 +167,7 @@ fn features_told(alloc: Global, features: &[KeyPredicate<'_>]) -> Result<String,
 
 /// Returns the message for mistaken facts.
 fn unknown_fact_message(alloc: Global, key: &KnownKey<'_>) -> Result<String, AllocError>
-    ensures { IfOk result (λ s. Mentions
-        (mistakes_in (chosen (Choice.OfSort Sort.Mistaken) key.now.predicates.items)) (string_bytes s)) }
+    ensures { IfOk result (λ s. Shows Code.UnknownFact key.now (string_bytes s)) }
 {
     let mistakes = chosen(alloc, &key.predicates, Choice::OfSort(Sort::Mistaken))?;
     let facts = chosen(alloc, &mistakes, Choice::NoFeature)?;
@@ -186,7 +179,8 @@ fn unknown_fact_message(alloc: Global, key: &KnownKey<'_>) -> Result<String, All
 
 /// Returns the message for a condition that is true on no known target.
 fn nowhere_message(alloc: Global) -> Result<String, AllocError>
-    ensures { IfOk result (λ s. Mentions (RUSTC_VERSION.now ∷ []) (string_bytes s)) }
+    ensures { IfOk result
+        (λ s. string_bytes s ≡ no_target ++ codes " has facts that make the condition true") }
 {
     let unknown = no_target(alloc)?;
     format!(in alloc; "{unknown} has facts that make the condition true")
@@ -194,26 +188,33 @@ fn nowhere_message(alloc: Global) -> Result<String, AllocError>
 
 /// Returns the message for a condition that is true on every known target.
 fn everywhere_message(alloc: Global) -> Result<String, AllocError>
-    ensures { IfOk result (λ s. Mentions (RUSTC_VERSION.now ∷ []) (string_bytes s)) }
+    ensures { IfOk result (λ s. string_bytes s ≡ every_target) }
 {
     format!(in alloc; "the condition is true on every target that rustc {RUSTC_VERSION} knows")
 }
 
+/// Returns facts, and that only unstable features set them.
+fn only_unstable(alloc: Global, facts: &[KeyPredicate<'_>]) -> Result<String, AllocError>
+    ensures { IfOk result (λ s. string_bytes s ≡ only_unstable facts.now) }
+{
+    let names = listed(alloc, facts)?;
+    format!(in alloc; "{names} only with unstable features")
+}
+
 /// Returns the message for facts that only unstable features set, or the empty text if there are none.
 fn unstable_told(alloc: Global, facts: &[KeyPredicate<'_>]) -> Result<String, AllocError>
-    ensures { IfOk result (λ s. Mentions (listing_of_version facts.now) (string_bytes s)) }
+    ensures { IfOk result (λ s. string_bytes s ≡ unstable_text facts.now) }
 {
     if facts.is_empty() {
         return Ok(String::new(alloc));
     }
-    let names = listed(alloc, facts)?;
-    format!(in alloc; "rustc {RUSTC_VERSION} prints {names} only with unstable features")
+    let printed = only_unstable(alloc, facts)?;
+    format!(in alloc; "rustc {RUSTC_VERSION} prints {printed}")
 }
 
 /// Returns the message for facts that only flags set, and for those that only unstable features set.
 fn custom_message(alloc: Global, key: &KnownKey<'_>) -> Result<String, AllocError>
-    ensures { IfOk result (λ s. Mentions
-        (custom_in (chosen (Choice.OfSort Sort.Custom) key.now.predicates.items)) (string_bytes s)) }
+    ensures { IfOk result (λ s. Shows Code.Custom key.now (string_bytes s)) }
 {
     let custom = chosen(alloc, &key.predicates, Choice::OfSort(Sort::Custom))?;
     let flagged = chosen(alloc, &custom, Choice::Stable)?;

@@ -1,8 +1,8 @@
 //! The parts of the value of a key of `target` that are not dependency tables.
 
-ghost use Rattle.std.specs.Prelude.{◌≡◌, IfOk, not};
+ghost use Rattle.std.specs.Prelude.{◌≡◌, IfOk, map, not, string_bytes};
 ghost use Rattle.toml.specs.View.{view};
-ghost use Rattle.manifest_lints_findings.specs.NoTables.{is_table_name, is_no_table, is_empty_list};
+ghost use Rattle.manifest_lints_findings.specs.NoTables.{is_table_name, is_no_table, is_empty_list, no_table_names};
 
 use crate::meant::near;
 use crate::wording::quoted;
@@ -77,13 +77,16 @@ fn no_table(alloc: Global, name: &str) -> Result<String, AllocError> {
 }
 
 /// Returns the names of the fields of a key that are not dependency tables. Fails if memory is refused.
-pub fn no_table_fields(alloc: Global, value: &Value) -> Result<Vec<String>, AllocError> {
+pub fn no_table_fields(alloc: Global, value: &Value) -> Result<Vec<String>, AllocError>
+    ensures { IfOk result (λ found. map (λ s. string_bytes s) found.items ≡ no_table_names (view value.now)) }
+{
     let mut found = Vec::new(alloc);
-    if let Some(table) = value.as_table() {
-        for (name, member) in table.iter() {
-            if !is_table_name(name.as_str()) || member.as_table().is_none() {
-                found.push(name.clone()?)?;
-            }
+    let Some(table) = value.as_table() else {
+        return Ok(found);
+    };
+    'members: for (name, member) in table.iter() {
+        if !is_table_name(name.as_str()) || member.as_table().is_none() {
+            found.push(name.clone()?)?;
         }
     }
     Ok(found)

@@ -1,6 +1,11 @@
 //! The parts of a manifest that a diagnostic on a key points to.
 
-use crate::chosen::is_marked_literal;
+ghost use Rattle.std.specs.Prelude.{◌≡◌, IfOk, map, string_bytes};
+ghost use Rattle.manifest_lints_findings.specs.Pointed.{choice_of, spans_in, spans_of, fields_of};
+ghost use Rattle.manifest_lints_findings.specs.Pointed.{PointsTo, PointsToKey, PointsToNothing};
+ghost use Rattle.manifest_lints_findings.specs.Spells.{data_at};
+
+use crate::chosen::{Choice, chosen};
 use crate::codes::Code;
 use crate::known_keys::KnownKey;
 use crate::no_tables::no_table_fields;
@@ -23,7 +28,9 @@ pub struct Pointed {
 
 impl Pointed {
     /// Returns no parts.
-    pub fn nothing(alloc: Global) -> Pointed {
+    pub fn nothing(alloc: Global) -> Pointed
+        ensures { PointsToNothing result }
+    {
         Pointed {
             facts: Vec::new(alloc),
             fields: Vec::new(alloc),
@@ -32,15 +39,30 @@ impl Pointed {
     }
 }
 
-/// Returns whether the diagnostic of this lint is about a name or pair.
-fn is_at_fault(code: Code, predicate: &KeyPredicate<'_>) -> bool {
+/// Returns which names and pairs the diagnostic of this lint is about.
+fn choice_of(code: Code) -> Option<Choice>
+    ensures { result ≡ choice_of code }
+{
     match code {
-        Code::UnknownFact => predicate.standing.sort().is(Sort::Mistaken),
-        Code::Unsupported => predicate.standing.sort().is(Sort::Unsupported),
-        Code::Custom => predicate.standing.sort().is(Sort::Custom),
-        Code::ReadOtherwise => is_marked_literal(predicate.fact),
-        _ => false,
+        Code::UnknownFact => Some(Choice::OfSort(Sort::Mistaken)),
+        Code::Unsupported => Some(Choice::OfSort(Sort::Unsupported)),
+        Code::Custom => Some(Choice::OfSort(Sort::Custom)),
+        Code::ReadOtherwise => Some(Choice::Literal),
+        _ => None,
     }
+}
+
+/// Returns the spans of these names and pairs, where they are known.
+fn spans_in(alloc: Global, predicates: &[KeyPredicate<'_>]) -> Result<Vec<Span>, AllocError>
+    ensures { IfOk result (λ spans. spans.items ≡ spans_in predicates.now) }
+{
+    let mut spans = Vec::new(alloc);
+    'predicates: for each in predicates {
+        if let Some(span) = each.span {
+            spans.push(span)?;
+        }
+    }
+    Ok(spans)
 }
 
 /// Returns the spans of the names and pairs that the diagnostic of this lint is about: of the first ones, each where it
@@ -49,27 +71,23 @@ fn facts_at_fault(
     alloc: Global,
     predicates: &[KeyPredicate<'_>],
     code: Code,
-) -> Result<Vec<Span>, AllocError> {
-    let mut spans = Vec::new(alloc);
-    for each in predicates {
-        if spans.len() >= TOLD {
-            break;
-        }
-        if each.is_first && is_at_fault(code, each) {
-            if let Some(span) = each.span {
-                spans.push(span)?;
-            }
-        }
-    }
+) -> Result<Vec<Span>, AllocError>
+    ensures { IfOk result (λ spans. spans.items ≡ spans_of (choice_of code) predicates.now) }
+{
+    let Some(choice) = choice_of(code) else {
+        return Ok(Vec::new(alloc));
+    };
+    let at_fault = chosen(alloc, predicates, choice)?;
+    let mut spans = spans_in(alloc, &at_fault)?;
+    spans.truncate(TOLD);
     Ok(spans)
 }
 
 /// Returns the names of the fields that the diagnostic of this lint is about.
-fn fields_at_fault(
-    alloc: Global,
-    key: &KnownKey<'_>,
-    code: Code,
-) -> Result<Vec<String>, AllocError> {
+fn fields_at_fault(alloc: Global, key: &KnownKey<'_>, code: Code) -> Result<Vec<String>, AllocError>
+    ensures { IfOk result
+        (λ fields. map (λ s. string_bytes s) fields.items ≡ fields_of code (data_at key.now.read.now.value)) }
+{
     match (code, key.read.value) {
         (Code::NoTable, Some(value)) => no_table_fields(alloc, value),
         _ => Ok(Vec::new(alloc)),
@@ -77,7 +95,9 @@ fn fields_at_fault(
 }
 
 /// Returns the earlier key, if the diagnostic of this lint compares two keys.
-fn earlier_of(alloc: Global, other: &str, code: Code) -> Result<Option<String>, AllocError> {
+fn earlier_of(alloc: Global, other: &str, code: Code) -> Result<Option<String>, AllocError>
+    ensures { IfOk result (PointsToKey code other.now) }
+{
     match code {
         Code::Same | Code::Equivalent => Ok(Some(String::from_str(alloc, other)?)),
         _ => Ok(None),
@@ -91,7 +111,10 @@ pub fn pointed_by(
     key: &KnownKey<'_>,
     other: &str,
     code: Code,
-) -> Result<Pointed, AllocError> {
+) -> Result<Pointed, AllocError>
+    ensures parts { IfOk result (PointsTo code key.now) }
+    ensures earlier { IfOk result (λ found. PointsToKey code other.now found.earlier) }
+{
     Ok(Pointed {
         facts: facts_at_fault(alloc, &key.predicates, code)?,
         fields: fields_at_fault(alloc, key, code)?,

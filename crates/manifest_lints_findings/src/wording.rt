@@ -4,7 +4,7 @@ ghost use Rattle.std.specs.Prelude.{◌≡◌, ◌++◌, IfOk, codes, length, st
 ghost use Rattle.std.specs.List.{join_by};
 ghost use Rattle.cargo_platform.specs.Trees.{value_of};
 ghost use Rattle.manifest_lints_findings.specs.Chosen.{fact_text, quoted_value};
-ghost use Rattle.manifest_lints_findings.specs.Texts.{quoted_text, and_more, joined_first, FollowsIn};
+ghost use Rattle.manifest_lints_findings.specs.Texts.{quoted_text, and_more, joined_first, both_texts};
 ghost use Rattle.manifest_lints_findings.specs.declared.wording.TheConstants.{TOLD};
 
 use cargo_platform::{Cfg, shown_start};
@@ -96,8 +96,7 @@ pub fn listed(alloc: Global, facts: &[KeyPredicate<'_>]) -> Result<String, Alloc
 
 /// Returns both texts with a semicolon between them, or the only one that is not empty. Fails if memory is refused.
 pub fn both(alloc: Global, first: String, second: String) -> Result<String, AllocError>
-    ensures { IfOk result
-        (λ s. FollowsIn (string_bytes s) (string_bytes first) (string_bytes second)) }
+    ensures { IfOk result (λ s. string_bytes s ≡ both_texts (string_bytes first) (string_bytes second)) }
 {
     if first.is_empty() {
         return Ok(second);
