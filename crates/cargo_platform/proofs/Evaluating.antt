@@ -154,15 +154,6 @@ pushed fs n m b os g gs h below bits is =
     let high : m / 8 ≡ n = omega arith in
     (low ∙ bits, subst (λ w. Hold fs w gs) (sym (ap (λ z. around_by z os) high ∙ same_words fs n os gs h)) h)
 
--- a group in a new word
-pub pushed_word : (fs : FactSet) (n b : ℕ) (os : List ℕ) (g : Opening) (gs : List Opening)
-    → Hold fs (record { inner = n; outer = os }) gs → b < 8 → b ≡ level fs g gs
-    → Hold fs (record { inner = b; outer = n ∷ os }) (g ∷ gs)
-pushed_word fs n b os g gs h below bits =
-    let low : b % 8 ≡ b = omega arith in
-    let high : b / 8 ≡ 0 = omega arith in
-    (low ∙ bits, subst (λ w. Hold fs w gs) (sym (ap (λ z. around_by z (n ∷ os)) high)) h)
-
 -- ---- members
 
 and_true_last : (fs : FactSet) (es : List Tree) (e : Tree)
