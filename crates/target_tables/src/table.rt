@@ -70,7 +70,7 @@ impl TargetTable {
         Ok(TargetTable { rows })
     }
 
-    /// Adds the target with this name and these facts behind the others, unless a target of the table has its name.
+    /// Adds the target with this name and these facts after the others, unless a target of the table has its name.
     /// Returns whether it was added. Fails only if an allocation fails, and the table is then unchanged.
     pub fn add(&mut self, alloc: Global, name: &str, facts: Vec<Cfg>) -> Result<bool, AllocError>
         // It is added exactly if no row has the name. The other rows stay as they are.
