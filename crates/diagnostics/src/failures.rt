@@ -36,8 +36,8 @@ pub fn diagnostic_of_failure(
     })
 }
 
-/// Returns the diagnostic on a manifest that is not TOML. If the quotes of a key `cfg(..)` are missing or end in it, the
-/// diagnostic suggests to quote it. Fails if memory is refused.
+/// Returns the diagnostic on a manifest that is not TOML. If the quotes of a key `cfg(..)` are missing or end in it,
+/// the diagnostic suggests quoting it. Fails if an allocation fails.
 pub fn diagnostic_of_syntax(alloc: Global, error: &SyntaxError) -> Result<Diagnostic, AllocError> {
     let message = error.message.clone()?;
     let mut diagnostic = diagnostic_of_failure(alloc, message, Some(error.at))?;

@@ -73,8 +73,8 @@ fn is_target_name(alloc: Global, name: &str) -> Result<bool, AllocError> {
     }
 }
 
-/// Returns the targets of a file, or else the known ones, with those of these values of `--target-spec`. If there are no
-/// values, nothing changes. Fails with a message that names the option and the value if one of them is invalid.
+/// Returns the targets of a file, or else the known ones, with those of these values of `--target-spec`. If there are
+/// no values, nothing changes. Fails with a message that names the option and the value if one of them is invalid.
 pub fn with_custom_targets<R: Files + Input + AllocGlobal>(
     rt: &R,
     given: Option<GivenTargets>,
