@@ -8,7 +8,7 @@ use crate::level_rules::{LintLevel, Occurrence};
 use cargo_platform::shown_start;
 use key_answers::answer::Status;
 use manifest_lints_findings::{Children, Code, Level, Lint};
-use manifests::places::Location;
+use manifests::locations::Location;
 use std::alloc::{AllocError, Global};
 use toml_spans::{Position, Span};
 

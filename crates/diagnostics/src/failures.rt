@@ -4,7 +4,7 @@ use crate::diagnostic::Diagnostic;
 use crate::level_rules::LintLevel;
 use crate::unquoted::Unquoted;
 use manifest_lints_findings::Children;
-use manifests::places::{Location, Places};
+use manifests::locations::{Location, Locations};
 use manifests::reading::SyntaxError;
 use std::alloc::{AllocError, Global};
 use toml_spans::Span;
@@ -53,7 +53,7 @@ pub fn diagnostic_of_syntax(alloc: Global, error: &SyntaxError) -> Result<Diagno
 /// Returns the place of a byte of a key, or else that of the key.
 fn place_in_key(
     alloc: Global,
-    places: &Places,
+    locations: &Locations,
     key: &str,
     byte: usize,
 ) -> Result<Option<Location>, AllocError> {
@@ -61,9 +61,9 @@ fn place_in_key(
         start: byte,
         end: byte.saturating_add(1),
     };
-    match places.located_part(alloc, key, part)? {
+    match locations.located_part(alloc, key, part)? {
         Some(at) => Ok(Some(at)),
-        None => places.located_key(alloc, key),
+        None => locations.located_key(alloc, key),
     }
 }
 
@@ -71,12 +71,12 @@ fn place_in_key(
 /// refused.
 pub fn diagnostic_of_key(
     alloc: Global,
-    places: &Places,
+    locations: &Locations,
     key: &str,
     byte: usize,
     message: String,
 ) -> Result<Diagnostic, AllocError> {
-    let at = place_in_key(alloc, places, key, byte)?;
+    let at = place_in_key(alloc, locations, key, byte)?;
     let mut diagnostic = diagnostic_of_failure(alloc, message, at)?;
     diagnostic.subject = String::from_str(alloc, "target")?;
     diagnostic.key = Some(String::from_str(alloc, key)?);

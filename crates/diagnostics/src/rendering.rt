@@ -4,7 +4,7 @@ use crate::diagnostic::{Diagnostic, Reported, level_word};
 use crate::level_rules::LintLevel;
 use crate::source_lines::{CUT, Window};
 use manifest_lints_findings::Children;
-use manifests::places::Location;
+use manifests::locations::Location;
 use std::alloc::{AllocError, Global};
 
 /// A place that is marked.

@@ -17,7 +17,7 @@ use Rattle.cargo_platform.specs.ExpressionSizes.{node_count}
 use Rattle.cargo_platform.specs.declared.cfg.CfgExpr.{CfgExpr}
 use Rattle.exact_answers.specs.declared.goal_diagrams.making.Goal.{Goal}
 use Rattle.exact_answers.specs.Goals.{true_as_wanted, goals_met, IsAsTold}
-use Rattle.exact_answers.specs.declared.outlook.Words.{Words}
+use Rattle.exact_answers.specs.declared.outlook.PairSets.{PairSets}
 use Rattle.exact_answers.specs.declared.outlook.Outlook.{Outlook}
 use Rattle.exact_answers.specs.declared.outlook.Finding.{Finding}
 use Rattle.exact_answers.specs.declared.outlook.Seen.TheVariants as seen
@@ -77,28 +77,28 @@ out : (b : Bool) → not b ≡ true → b ≡ false
 out true h = absurd (true≢false (sym h))
 out false h = refl
 
-pub with_it : (s : FactSet) (l : ℕ) (w : Words) (wanted : Bool) → wanted ≡ true → Fits s l w
+pub with_it : (s : FactSet) (l : ℕ) (w : PairSets) (wanted : Bool) → wanted ≡ true → Fits s l w
     → true_as_wanted wanted (contains s (pair_of (value_of w.pair.now))) ≡ true → bit_at w.with l ≡ 1
 with_it s l w true e fits is = fits.0 is
 with_it s l w false e fits is = absurd (true≢false (sym e))
 
-pub without_it : (s : FactSet) (l : ℕ) (w : Words) (wanted : Bool) → wanted ≡ false → Fits s l w
+pub without_it : (s : FactSet) (l : ℕ) (w : PairSets) (wanted : Bool) → wanted ≡ false → Fits s l w
     → true_as_wanted wanted (contains s (pair_of (value_of w.pair.now))) ≡ true → bit_at w.without l ≡ 1
 without_it s l w true e fits is = absurd (true≢false e)
 without_it s l w false e fits is = fits.1 (out (contains s (pair_of (value_of w.pair.now))) is)
 
 -- ---- the findings that are joined
 
-abbrev pub AreJoined : List Words → Bool → ℕ → ℕ → Finding → List Finding → ℕ → List Bool → Type 0
+abbrev pub AreJoined : List PairSets → Bool → ℕ → ℕ → Finding → List Finding → ℕ → List Bool → Type 0
 AreJoined table each count left f fs l bs =
     (a : Bool) × (cs : List Bool) × Covers table l fs cs × Says table l f a
     × (gathered each count bs ≡ both each a (gathered each left cs)) × (drop count bs ≡ drop left cs)
 
-pub first_joined : (table : List Words) (each : Bool) (count : ℕ) (f : Finding) (fs : List Finding) (l : ℕ)
+pub first_joined : (table : List PairSets) (each : Bool) (count : ℕ) (f : Finding) (fs : List Finding) (l : ℕ)
     (bs : List Bool) → Says table l f each → Covers table l fs bs → AreJoined table each count count f fs l bs
 first_joined table each count f fs l bs says cov = (each, bs, cov, says, both_itself each _, refl)
 
-pub next_joined : (table : List Words) (each : Bool) (count left : ℕ) (f g new : Finding) (fs : List Finding) (l : ℕ)
+pub next_joined : (table : List PairSets) (each : Bool) (count left : ℕ) (f g new : Finding) (fs : List Finding) (l : ℕ)
     (bs : List Bool)
     → ((a b : Bool) → Says table l f a → Says table l g b → Says table l new (both each a b))
     → AreJoined table each count (suc left) f (g ∷ fs) l bs → AreJoined table each count left new fs l bs
@@ -112,11 +112,11 @@ next_joined table each count left f g new fs l bs join (a, b ∷ cs, cov, says, 
   d,
 )
 
-abbrev pub IsGathered : List Words → Bool → ℕ → Finding → List Finding → ℕ → List Bool → Type 0
+abbrev pub IsGathered : List PairSets → Bool → ℕ → Finding → List Finding → ℕ → List Bool → Type 0
 IsGathered table each count f fs l bs =
     Says table l f (gathered each count bs) × Covers table l fs (drop count bs)
 
-pub end_joined : (table : List Words) (each : Bool) (count : ℕ) (f : Finding) (fs : List Finding) (l : ℕ)
+pub end_joined : (table : List PairSets) (each : Bool) (count : ℕ) (f : Finding) (fs : List Finding) (l : ℕ)
     (bs : List Bool) → AreJoined table each count 0 f fs l bs → IsGathered table each count f fs l bs
 end_joined table each count f fs l bs (a, cs, cov, says, e, d) = (
   subst (Says table l f) (sym (both_neutral each a) ∙ sym e) says,
@@ -136,7 +136,7 @@ drop_none zero bs h = h
 drop_none (suc n) [] h = refl
 drop_none (suc n) (b ∷ bs) h = cc
 
-pub none_joined : (table : List Words) (each : Bool) (count left : ℕ) (f : Finding) (l : ℕ) (bs : List Bool)
+pub none_joined : (table : List PairSets) (each : Bool) (count left : ℕ) (f : Finding) (l : ℕ) (bs : List Bool)
     → AreJoined table each count left f [] l bs → IsGathered table each count f [] l bs
 none_joined table each count left f l bs (a, [], cov, says, e, d) = (
   subst (Says table l f)
@@ -150,7 +150,7 @@ none_joined table each count left f l bs (a, c ∷ cs, cov, says, e, d) = absurd
 pub last_first : {X : Type 0} → (xs : List X) (x : X) → reverse (xs ++ x ∷ []) ≡ x ∷ reverse xs
 last_first xs x = reverse-append xs (x ∷ [])
 
-pub covers_last : (table : List Words) (l : ℕ) (f : Finding) (fs : List Finding) (b : Bool)
+pub covers_last : (table : List PairSets) (l : ℕ) (f : Finding) (fs : List Finding) (b : Bool)
     → Covers table l (f ∷ fs) (b ∷ []) → Says table l f b
 covers_last table l f fs b cov = cov.0
 
@@ -218,7 +218,7 @@ all_so_both l (d ∷ cs) c h = let r = all_so_both l cs c h.1 in ((h.0, r.0), r.
 pub none_chosen : (s : FactSet) → AreChosen s patterns []
 none_chosen s = ([], refl, λ l h so. All-nil (Fits s l))
 
-pub told_chosen : (s : FactSet) (left : List ℕ) (ws : List Words) (w : Words) → AreChosen s left ws
+pub told_chosen : (s : FactSet) (left : List ℕ) (ws : List PairSets) (w : PairSets) → AreChosen s left ws
     → ((l : ℕ) → l < 64 → Fits s l w) → AreChosen s left (ws ++ w ∷ [])
 told_chosen s left ws w h f = (h.0, h.1, λ l low so. All-push (Fits s l) ws w (h.2 l low so) (f l low))
 
@@ -227,7 +227,7 @@ moved : (cs : List (ℕ × Bool)) (c : ℕ × Bool) (left : List ℕ)
 moved [] c left = refl
 moved (d ∷ cs) c left = ap (λ ws. d.0 ∷ ws) (moved cs c left)
 
-pub open_chosen : (s : FactSet) (p : ℕ) (left : List ℕ) (ws : List Words) (w : Words) (b : Bool)
+pub open_chosen : (s : FactSet) (p : ℕ) (left : List ℕ) (ws : List PairSets) (w : PairSets) (b : Bool)
     → AreChosen s (p ∷ left) ws
     → ((l : ℕ) → l < 64 → (b ≡ true → bit_at p l ≡ 1) → (b ≡ false → bit_at p l ≡ 0) → Fits s l w)
     → AreChosen s left (ws ++ w ∷ [])
@@ -239,7 +239,7 @@ open_chosen s p left ws w b h f = (
       All-push (Fits s l) ws w (h.2 l low r.0) (f l low r.1.0 r.1.1),
 )
 
-pub some_chosen : (s : FactSet) (left : List ℕ) (ws : List Words) → AreChosen s left ws
+pub some_chosen : (s : FactSet) (left : List ℕ) (ws : List PairSets) → AreChosen s left ws
     → (l : ℕ) × (l < 64) × All (Fits s l) ws
 some_chosen s left ws h =
     let bs = padded 6 (map (λ c. c.1) h.0) in
@@ -327,7 +327,7 @@ pub never : (word l : ℕ) → word ≡ 0 → bit_at word l ≡ 1 → ⊥
 never word l e h = let none : bit_at 0 l ≡ 1 = sym (ap (λ w. bit_at w l) e) ∙ h in omega (arith, none, bit_at-zero l)
 
 module _ (outlook : Outlook) (gs : List Goal) (is : IsOutlook outlook gs) (k : Base) (ds : List Turn)
-    (table : List Words) (found : Finding)
+    (table : List PairSets) (found : Finding)
     (chosen : (s : FactSet) → IsAsTold (told_on k ds) s → (l : ℕ) × (l < 64) × All (Fits s l) table)
     (works : (s : FactSet) (l : ℕ) (b : Bool) → l < 64 → All (Fits s l) table
     → worked_out s outlook.operations.items [] ≡ b ∷ [] → Says table l found b) where
@@ -356,7 +356,7 @@ module _ (outlook : Outlook) (gs : List Goal) (is : IsOutlook outlook gs) (k : B
       subst (λ x. IsSeen table x (goals_met (set_on k ds) gs)) e (says (set_on k ds) (as_told k ds)).1.1
 
 -- the same by what the code is given
-pub found_by : (outlook : Outlook) (os : List Operation) (ws table : List Words) (found : Finding)
+pub found_by : (outlook : Outlook) (os : List Operation) (ws table : List PairSets) (found : Finding)
     → os ≡ outlook.operations.items → ws ≡ table
     → ((s : FactSet) (l : ℕ) (b : Bool) → l < 64 → All (Fits s l) ws → worked_out s os [] ≡ b ∷ []
     → Says ws l found b)

@@ -7,7 +7,7 @@ use Rattle.cargo_platform.specs.declared.cfg.Cfg.{Cfg}
 use Rattle.cargo_platform.specs.Trees.{value_of}
 use Rattle.cargo_platform.specs.Facts.{Pair, pair_of}
 use Rattle.exact_answers.specs.Goals.{StandsAt, pairs_of}
-use Rattle.exact_answers.specs.declared.outlook.Words.{Words}
+use Rattle.exact_answers.specs.declared.outlook.PairSets.{PairSets}
 use Rattle.exact_answers.specs.Inside.Paths.{Base, Turn, told_on}
 use Rattle.exact_answers.specs.Inside.Ahead.{table_pairs, AreAmong, IsOpenAt, AreTold}
 
@@ -53,7 +53,7 @@ among_pushed among old new c is h all =
 
 -- ---- by index
 
-pub words_at : (ws : List Words) (n : ℕ) (w : Words) → n < length ws → w ≡ get_or ws n w
+pub words_at : (ws : List PairSets) (n : ℕ) (w : PairSets) → n < length ws → w ≡ get_or ws n w
     → StandsAt (table_pairs ws) n (pair_of (value_of w.pair.now))
 words_at [] n w short is = absurd (let never : ⊥ = omega (arith, short) in never)
 words_at (v ∷ ws) zero w short is = ap (λ w. pair_of (value_of w.pair.now)) (sym is)
@@ -70,31 +70,31 @@ short_at [] n p h = absurd h
 short_at (r ∷ ps) zero p h = omega arith
 short_at (r ∷ ps) (suc n) p h = let less = short_at ps n p h in omega (arith, less)
 
-pub short_number : (ws : List Words) (n : ℕ) (p : Pair) → StandsAt (table_pairs ws) n p → n < length ws
+pub short_number : (ws : List PairSets) (n : ℕ) (p : Pair) → StandsAt (table_pairs ws) n p → n < length ws
 short_number ws n p h =
     subst (λ m. n < m) (length-map ws (λ w. pair_of (value_of w.pair.now))) (short_at (table_pairs ws) n p h)
 
 -- ---- open pairs
 
-pub open_there : (ws : List Words) (n : ℕ) (w : Words) → n < length ws → w ≡ get_or ws n w → w.tells ≡ None
+pub open_there : (ws : List PairSets) (n : ℕ) (w : PairSets) → n < length ws → w ≡ get_or ws n w → w.tells ≡ None
     → IsOpenAt ws n
 open_there [] n w short is none = absurd (let never : ⊥ = omega (arith, short) in never)
 open_there (v ∷ ws) zero w short is none = ap (λ w. w.tells) (sym is) ∙ none
 open_there (v ∷ ws) (suc n) w short is none = open_there ws n w (omega (arith, short)) is none
 
-pub short_open : (ws : List Words) (n : ℕ) → IsOpenAt ws n → n < length ws
+pub short_open : (ws : List PairSets) (n : ℕ) → IsOpenAt ws n → n < length ws
 short_open [] n h = absurd h
 short_open (w ∷ ws) zero h = omega arith
 short_open (w ∷ ws) (suc n) h = let less = short_open ws n h in omega (arith, less)
 
-pub open_told : (k : Base) (ds : List Turn) (ws : List Words) (n : ℕ) (w : Words) → w ≡ get_or ws n w
+pub open_told : (k : Base) (ds : List Turn) (ws : List PairSets) (n : ℕ) (w : PairSets) → w ≡ get_or ws n w
     → IsOpenAt ws n → AreTold k ds ws → told_on k ds (pair_of (value_of w.pair.now)) ≡ None
 open_told k ds [] n w is h told = absurd h
 open_told k ds (v ∷ ws) zero w is h told =
     ap (λ w. told_on k ds (pair_of (value_of w.pair.now))) is ∙ sym told.0 ∙ h
 open_told k ds (v ∷ ws) (suc n) w is h told = open_told k ds ws n w is h told.1
 
-pub told_more : (k : Base) (ds : List Turn) (ws : List Words) (w : Words) → AreTold k ds ws
+pub told_more : (k : Base) (ds : List Turn) (ws : List PairSets) (w : PairSets) → AreTold k ds ws
     → w.tells ≡ told_on k ds (pair_of (value_of w.pair.now)) → AreTold k ds (ws ++ w ∷ [])
 told_more k ds [] w told is = (is, tt)
 told_more k ds (v ∷ ws) w told is = (told.0, told_more k ds ws w told.1 is)
@@ -104,12 +104,12 @@ told_pair k ds p q is = ap (told_on k ds) (sym is)
 
 -- ---- the words of the pairs so far, and the pairs that are left
 
-joined_pairs : (ws : List Words) (w : Words) (q : Pair) (qs : List Pair) → pair_of (value_of w.pair.now) ≡ q
+joined_pairs : (ws : List PairSets) (w : PairSets) (q : Pair) (qs : List Pair) → pair_of (value_of w.pair.now) ≡ q
     → table_pairs (ws ++ w ∷ []) ++ qs ≡ table_pairs ws ++ q ∷ qs
 joined_pairs [] w q qs is = ap (λ q. q ∷ qs) is
 joined_pairs (v ∷ ws) w q qs is = ap (λ ps. pair_of (value_of v.pair.now) ∷ ps) (joined_pairs ws w q qs is)
 
-pub pairs_left : (ws new : List Words) (cs : List (Bor Cfg)) (n : ℕ) (c : Bor Cfg) (w : Words) → n < length cs
+pub pairs_left : (ws new : List PairSets) (cs : List (Bor Cfg)) (n : ℕ) (c : Bor Cfg) (w : PairSets) → n < length cs
     → c ≡ get_or cs n c → new ≡ ws ++ w ∷ [] → pair_of (value_of w.pair.now) ≡ pair_of (value_of c.now)
     → table_pairs ws ++ pairs_of (drop n cs) ≡ pairs_of cs
     → table_pairs new ++ pairs_of (drop (n + 1) cs) ≡ pairs_of cs

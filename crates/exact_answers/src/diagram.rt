@@ -8,7 +8,7 @@ ghost use Rattle.exact_answers.specs.Inside.Paths.{base_of};
 ghost use Rattle.exact_answers.specs.Inside.Searches.{goal_trees, AreMissed, IsPathOf, SaysEnd};
 ghost use Rattle.exact_answers.specs.Inside.Ahead.{AreAmong};
 
-use crate::goal_diagrams::{Choice, Goal, Outcome, find_way};
+use crate::goal_diagrams::{Choice, Goal, Outcome, find_choices};
 use crate::known::Known;
 use crate::path::Path;
 use crate::search::{Step, next_step};
@@ -43,7 +43,7 @@ fn outcome_within<'a>(
     ensures { IfOk result (λ r. r ≡ Outcome.Nothing → AreMissed (base_of known.now) goals.now []) }
 {
     let path = Path::new(alloc, known);
-    find_way(alloc, goals, pairs, &path, known.single, most_nodes)
+    find_choices(alloc, goals, pairs, &path, known.single, most_nodes)
 }
 
 /// Returns what a diagram finds for the goals: a small one, or else a larger one.

@@ -5,6 +5,6 @@ mod answers;
 mod making;
 mod table;
 
-pub use answers::{Outcome, find_way};
+pub use answers::{Outcome, find_choices};
 pub use making::{Goal, as_wanted, is_same};
 pub use table::Choice;

@@ -40,7 +40,7 @@ pub enum Operation<'a> {
 /// A pair with whether it is a fact, if that is known; and the sets that may have it and those that may lack it, a bit
 /// for each set.
 #[derive(Clone, Copy)]
-pub struct Words<'a> {
+pub struct PairSets<'a> {
     pub pair: &'a Cfg,
     pub tells: Option<bool>,
     pub with: u64,
@@ -149,7 +149,7 @@ impl<'a> Outlook<'a> {
         ensures { IfOk result (λ step. (gs : List Goal) → IsOutlook self.now gs
             → SaysStepOn step (base_of path.now.known.now) gs (turns path.now)) }
     {
-        let table = words_of(alloc, &self.pairs, path)?;
+        let table = pair_sets_of(alloc, &self.pairs, path)?;
         let found = work_out_all(alloc, &self.operations, &table)?;
         if found.sets == 0 {
             return Ok(Step::Decided(false));
@@ -241,7 +241,7 @@ fn all_or_none(all: bool) -> u64
 
 /// Returns the finding on a goal whose truth is known.
 fn literal(met: bool) -> Finding
-    ensures { (table : List Words) (l : ℕ) → l < 64 → Says table l result met }
+    ensures { (table : List PairSets) (l : ℕ) → l < 64 → Says table l result met }
 {
     Finding {
         sets: all_or_none(met),
@@ -249,7 +249,7 @@ fn literal(met: bool) -> Finding
     }
 }
 
-/// Returns the sets of both words, or of either.
+/// Returns the sets of both, or of either.
 fn joined_sets(each: bool, word: u64, other: u64) -> u64
     ensures { (l : ℕ) (a b : Bool) → (a ≡ true → bit_at word l ≡ 1) → (b ≡ true → bit_at other l ≡ 1)
         → both each a b ≡ true → bit_at result l ≡ 1 }
@@ -259,7 +259,7 @@ fn joined_sets(each: bool, word: u64, other: u64) -> u64
 
 /// Returns what is seen of two goals together. If one is open, the first such goal gives the open pair.
 fn joined_seen(each: bool, one: Seen, other: Seen) -> Seen
-    ensures { (table : List Words) (a b : Bool) → IsSeen table one a → IsSeen table other b
+    ensures { (table : List PairSets) (a b : Bool) → IsSeen table one a → IsSeen table other b
         → IsSeen table result (both each a b) }
 {
     match one {
@@ -273,7 +273,7 @@ fn joined_seen(each: bool, one: Seen, other: Seen) -> Seen
 
 /// Returns the finding on two goals together.
 fn joined(each: bool, one: Finding, other: Finding) -> Finding
-    ensures { (table : List Words) (l : ℕ) (a b : Bool) → Says table l one a → Says table l other b
+    ensures { (table : List PairSets) (l : ℕ) (a b : Bool) → Says table l one a → Says table l other b
         → Says table l result (both each a b) }
 {
     let sets = joined_sets(each, one.sets, other.sets);
@@ -281,13 +281,13 @@ fn joined(each: bool, one: Finding, other: Finding) -> Finding
     Finding { sets, seen }
 }
 
-/// Returns the words of a pair that is known to be a fact, or known not to be one.
-fn told<'a>(pair: &'a Cfg, fact: bool) -> Words<'a>
+/// Returns the sets of a pair that is known to be a fact, or known not to be one.
+fn told<'a>(pair: &'a Cfg, fact: bool) -> PairSets<'a>
     ensures same { pair_of (value_of result.pair.now) ≡ pair_of (value_of pair.now) }
     ensures tells { result.tells ≡ Some fact }
     ensures fits { (s : FactSet) (l : ℕ) → l < 64 → contains s (pair_of (value_of pair.now)) ≡ fact → Fits s l result }
 {
-    Words {
+    PairSets {
         pair,
         tells: Some(fact),
         with: all_or_none(fact),
@@ -295,15 +295,15 @@ fn told<'a>(pair: &'a Cfg, fact: bool) -> Words<'a>
     }
 }
 
-/// Returns the words of an open pair, which is a fact in the sets of a pattern.
-fn split<'a>(pair: &'a Cfg, pattern: u64) -> Words<'a>
+/// Returns the sets of an open pair, which is a fact in the sets of a pattern.
+fn split<'a>(pair: &'a Cfg, pattern: u64) -> PairSets<'a>
     ensures same { pair_of (value_of result.pair.now) ≡ pair_of (value_of pair.now) }
     ensures tells { result.tells ≡ None }
     ensures fits { (s : FactSet) (l : ℕ) → l < 64
         → (contains s (pair_of (value_of pair.now)) ≡ true → bit_at pattern l ≡ 1)
         → (contains s (pair_of (value_of pair.now)) ≡ false → bit_at pattern l ≡ 0) → Fits s l result }
 {
-    Words {
+    PairSets {
         pair,
         tells: None,
         with: pattern,
@@ -311,13 +311,13 @@ fn split<'a>(pair: &'a Cfg, pattern: u64) -> Words<'a>
     }
 }
 
-/// Returns the words of a pair that any set may have.
-fn unsplit<'a>(pair: &'a Cfg) -> Words<'a>
+/// Returns the sets of a pair that any set may have.
+fn unsplit<'a>(pair: &'a Cfg) -> PairSets<'a>
     ensures same { pair_of (value_of result.pair.now) ≡ pair_of (value_of pair.now) }
     ensures tells { result.tells ≡ None }
     ensures fits { (s : FactSet) (l : ℕ) → l < 64 → Fits s l result }
 {
-    Words {
+    PairSets {
         pair,
         tells: None,
         with: u64::MAX,
@@ -325,12 +325,12 @@ fn unsplit<'a>(pair: &'a Cfg) -> Words<'a>
     }
 }
 
-/// Returns the words of a pair, and the patterns that are left.
-fn next_words<'a, 'b>(
+/// Returns the sets of a pair, and the patterns that are left.
+fn next_pair_sets<'a, 'b>(
     pair: &'a Cfg,
     tells: Option<bool>,
     patterns: &'b [u64],
-) -> (Words<'a>, &'b [u64])
+) -> (PairSets<'a>, &'b [u64])
     ensures same { pair_of (value_of result.0.pair.now) ≡ pair_of (value_of pair.now) }
     ensures tells { result.0.tells ≡ tells }
     ensures next { IsNext (pair_of (value_of pair.now)) tells patterns.now result.0 result.1.now }
@@ -344,13 +344,13 @@ fn next_words<'a, 'b>(
     }
 }
 
-/// Returns the words of the pairs on the path. The first six open pairs distinguish the sets: each set of facts that is
+/// Returns the sets of the pairs on the path. The first six open pairs distinguish the sets: each set of facts that is
 /// possible there agrees with one of the 64.
-fn words_of<'a>(
+fn pair_sets_of<'a>(
     alloc: Global,
     pairs: &[&'a Cfg],
     path: &Path<'a>,
-) -> Result<Vec<Words<'a>>, AllocError>
+) -> Result<Vec<PairSets<'a>>, AllocError>
     ensures pairs { IfOk result (λ table. table_pairs table.items ≡ pairs_of pairs.now) }
     ensures told { IfOk result (λ table. AreTold (base_of path.now.known.now) (turns path.now) table.items) }
     ensures chosen { IfOk result (λ table. (s : FactSet) → IsAsTold (told_by_path path.now) s
@@ -367,24 +367,28 @@ fn words_of<'a>(
     let mut table = Vec::with_capacity(alloc, pairs.len())?;
     let mut left: &[u64] = &patterns;
     for pair in pairs {
-        let (words, others) = next_words(pair, path.tells(pair), left);
-        table.push(words)?;
+        let (pair_sets, others) = next_pair_sets(pair, path.tells(pair), left);
+        table.push(pair_sets)?;
         left = others;
     }
     Ok(table)
 }
 
 /// Returns the sets over which the pair may have this truth.
-fn sets_of(words: &Words<'_>, wanted: bool) -> u64
-    ensures { (s : FactSet) (l : ℕ) → Fits s l words.now
-        → true_as_wanted wanted (contains s (pair_of (value_of words.now.pair.now))) ≡ true → bit_at result l ≡ 1 }
+fn sets_of(pair_sets: &PairSets<'_>, wanted: bool) -> u64
+    ensures { (s : FactSet) (l : ℕ) → Fits s l pair_sets.now
+        → true_as_wanted wanted (contains s (pair_of (value_of pair_sets.now.pair.now))) ≡ true → bit_at result l ≡ 1 }
 {
-    if wanted { words.with } else { words.without }
+    if wanted {
+        pair_sets.with
+    } else {
+        pair_sets.without
+    }
 }
 
 /// Returns what is seen of a pair with a wanted truth.
 fn seen_of(tells: Option<bool>, wanted: bool, number: usize) -> Seen
-    ensures { (table : List Words) (b : Bool) → (tells ≡ None → IsOpenAt table number) → IfSome tells (λ t. b ≡ t)
+    ensures { (table : List PairSets) (b : Bool) → (tells ≡ None → IsOpenAt table number) → IfSome tells (λ t. b ≡ t)
         → IsSeen table result (true_as_wanted wanted b) }
 {
     match tells {
@@ -394,20 +398,20 @@ fn seen_of(tells: Option<bool>, wanted: bool, number: usize) -> Seen
 }
 
 /// Returns the finding on the pair with this number and a wanted truth.
-fn finding_of(table: &[Words<'_>], wanted: bool, number: usize) -> Finding
+fn finding_of(table: &[PairSets<'_>], wanted: bool, number: usize) -> Finding
     requires { number < length table.now }
     ensures { (s : FactSet) (l : ℕ) (p : Pair) → All (Fits s l) table.now → StandsAt (table_pairs table.now) number p
         → Says table.now l result (true_as_wanted wanted (contains s p)) }
 {
-    let words = &table[number];
-    let sets = sets_of(words, wanted);
-    let seen = seen_of(words.tells, wanted, number);
+    let pair_sets = &table[number];
+    let sets = sets_of(pair_sets, wanted);
+    let seen = seen_of(pair_sets.tells, wanted, number);
     Finding { sets, seen }
 }
 
 /// Removes the last `count` findings, and joins them.
 fn gathered(findings: &mut Vec<Finding>, each: bool, count: usize) -> Finding
-    ensures { (table : List Words) (l : ℕ) (bs : List Bool) → l < 64 → Covers table l (reverse findings.old.items) bs
+    ensures { (table : List PairSets) (l : ℕ) (bs : List Bool) → l < 64 → Covers table l (reverse findings.old.items) bs
         → Says table l result (gathered each count bs)
         × Covers table l (reverse findings.new.items) (drop count bs) }
 {
@@ -435,7 +439,7 @@ fn pushed(findings: &mut Vec<Finding>, finding: Finding) -> Result<(), AllocErro
 /// Evaluates one operation.
 fn work_out(
     operation: Operation<'_>,
-    table: &[Words<'_>],
+    table: &[PairSets<'_>],
     findings: &mut Vec<Finding>,
 ) -> Result<(), AllocError>
     requires { HasNumber (table_pairs table.now) operation }
@@ -458,7 +462,7 @@ fn work_out(
 
 /// Returns the last finding.
 fn last(findings: Vec<Finding>) -> Finding
-    ensures { (table : List Words) (l : ℕ) (b : Bool) → Covers table l (reverse findings.items) (b ∷ [])
+    ensures { (table : List PairSets) (l : ℕ) (b : Bool) → Covers table l (reverse findings.items) (b ∷ [])
         → Says table l result b }
 {
     let mut findings = findings;
@@ -472,7 +476,7 @@ fn last(findings: Vec<Finding>) -> Finding
 fn work_out_all(
     alloc: Global,
     operations: &[Operation<'_>],
-    table: &[Words<'_>],
+    table: &[PairSets<'_>],
 ) -> Result<Finding, AllocError>
     requires { All (HasNumber (table_pairs table.now)) operations.now }
     ensures { IfOk result (λ finding. (s : FactSet) (l : ℕ) (b : Bool) → l < 64 → All (Fits s l) table.now
@@ -486,13 +490,13 @@ fn work_out_all(
 }
 
 /// Returns the pair with this number, which is open.
-fn open_pair<'a>(table: &[Words<'a>], number: usize) -> &'a Cfg
+fn open_pair<'a>(table: &[PairSets<'a>], number: usize) -> &'a Cfg
     requires short { number < length table.now }
     requires untold { IsOpenAt table.now number }
     ensures stands { StandsAt (table_pairs table.now) number (pair_of (value_of result.now)) }
     ensures open { (k : Base) (ds : List Turn) → AreTold k ds table.now
         → told_on k ds (pair_of (value_of result.now)) ≡ None }
 {
-    let words = &table[number];
-    words.pair
+    let pair_sets = &table[number];
+    pair_sets.pair
 }

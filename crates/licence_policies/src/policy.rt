@@ -9,7 +9,7 @@ use diagnostics::{
 };
 use input_limits::without_mark;
 use licence_audits::{Exception, PackageSpec};
-use manifests::places::Location;
+use manifests::locations::Location;
 use manifests::reading::{ManifestText, ReadError};
 use spdx_expressions::Licence;
 use std::alloc::{AllocError, Global};

@@ -5,7 +5,7 @@ use crate::policy::UnusedLevel;
 use cargo_platform::shown_start;
 use diagnostics::{Diagnostic, LintLevel, diagnostic_of_failure};
 use manifest_lints_findings::near;
-use manifests::places::{Location, Places, path_of};
+use manifests::locations::{Location, Locations, path_of};
 use spdx_expressions::ParseError;
 use std::alloc::{AllocError, Global};
 use toml::{Table, Value};
@@ -15,7 +15,7 @@ use toml_spans::{Position, Span, part_of_name};
 #[derive(Drop)]
 pub struct Reader {
     pub alloc: Global,
-    places: Places,
+    locations: Locations,
     diagnostics: Vec<Diagnostic>,
     /// The keys that are ignored, with those of their tables before them.
     ignored: Vec<String>,
@@ -52,7 +52,7 @@ impl Reader {
     pub fn new(alloc: Global, text: &str) -> Result<Reader, AllocError> {
         Ok(Reader {
             alloc,
-            places: Places::of_all(alloc, text)?,
+            locations: Locations::of_all(alloc, text)?,
             diagnostics: Vec::new(alloc),
             ignored: Vec::new(alloc),
         })
@@ -63,7 +63,7 @@ impl Reader {
         for dropped in 0..path.len() {
             let length = path.len().saturating_sub(dropped);
             let names = path_of(self.alloc, path.get(..length).unwrap_or(&[]))?;
-            if let Some(at) = self.places.at_path(names.as_str()) {
+            if let Some(at) = self.locations.at_path(names.as_str()) {
                 return Ok(Some(at));
             }
         }
@@ -126,7 +126,7 @@ impl Reader {
         start: usize,
         end: usize,
     ) -> Result<Location, AllocError> {
-        let source = self.places.text.as_str();
+        let source = self.locations.text.as_str();
         let part = Span { start, end };
         let Some(span) = part_of_name(self.alloc, source, at.span, text, part)? else {
             return Ok(at);

@@ -7,7 +7,7 @@ use diagnostics::{
 };
 use key_answers::json_lines;
 use manifest_lints_findings::Children;
-use manifests::places::Location;
+use manifests::locations::Location;
 use serde::Serialize;
 use std::alloc::{AllocError, Global};
 

@@ -5,7 +5,7 @@ use crate::escapes::escaped;
 use crate::sarif::{push_notification, push_result, sarif_begin, sarif_end};
 use diagnostics::{Diagnostic, LintLevel, Reported, coloured, end_of, level_word, push_rendered};
 use key_answers::json_lines;
-use manifests::places::Location;
+use manifests::locations::Location;
 use serde::Serialize;
 use std::alloc::{AllocError, Global};
 

@@ -6,8 +6,8 @@ use former_names::{
     Bounds, Release, Verdict, former_fact, former_target, has_former_value, name_now,
 };
 use manifest_lints_findings::{Children, Level, Lint, Site, WrongPlace};
-use manifest_lints_standings::key_spans::spans_of;
 use manifests::{Declared, Targets, target_keys};
+use predicate_classes::key_spans::spans_of;
 use std::alloc::{AllocError, Global};
 use toml::Table;
 use toml_spans::Span;

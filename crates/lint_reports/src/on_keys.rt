@@ -2,7 +2,7 @@
 
 use diagnostics::{Diagnostic, Label, default_level};
 use manifest_lints_findings::{Children, Finding, Lint, Report, Site, WrongPlace};
-use manifests::places::{Location, Places};
+use manifests::locations::{Location, Locations};
 use std::alloc::{AllocError, Global};
 use toml_spans::Span;
 
@@ -25,27 +25,31 @@ fn key_text(
 }
 
 /// Returns the place of a key without its quotes, or with them if it is not known otherwise.
-fn whole_key(alloc: Global, places: &Places, key: &str) -> Result<Option<Location>, AllocError> {
+fn whole_key(
+    alloc: Global,
+    locations: &Locations,
+    key: &str,
+) -> Result<Option<Location>, AllocError> {
     let whole = Span {
         start: 0,
         end: key.len(),
     };
-    match places.located_part(alloc, key, whole)? {
+    match locations.located_part(alloc, key, whole)? {
         Some(at) => Ok(Some(at)),
-        None => places.located_key(alloc, key),
+        None => locations.located_key(alloc, key),
     }
 }
 
 /// Adds the places of parts of a key that are known.
 fn add_parts(
     alloc: Global,
-    places: &Places,
+    locations: &Locations,
     key: &str,
     parts: &[Span],
     found: &mut Vec<Location>,
 ) -> Result<(), AllocError> {
     for part in parts {
-        if let Some(at) = places.located_part(alloc, key, *part)? {
+        if let Some(at) = locations.located_part(alloc, key, *part)? {
             found.push(at)?;
         }
     }
@@ -55,13 +59,13 @@ fn add_parts(
 /// Adds the places of fields of a key that are known.
 fn add_fields(
     alloc: Global,
-    places: &Places,
+    locations: &Locations,
     key: &str,
     fields: &[String],
     found: &mut Vec<Location>,
 ) -> Result<(), AllocError> {
     for field in fields {
-        if let Some(at) = places.at_field(alloc, key, field.as_str())? {
+        if let Some(at) = locations.at_field(alloc, key, field.as_str())? {
             found.push(at)?;
         }
     }
@@ -71,14 +75,14 @@ fn add_fields(
 /// Adds the place of a whole key, unless there is a place.
 fn add_whole(
     alloc: Global,
-    places: &Places,
+    locations: &Locations,
     key: &str,
     found: &mut Vec<Location>,
 ) -> Result<(), AllocError> {
     if !found.is_empty() {
         return Ok(());
     }
-    if let Some(at) = whole_key(alloc, places, key)? {
+    if let Some(at) = whole_key(alloc, locations, key)? {
         found.push(at)?;
     }
     Ok(())
@@ -87,7 +91,7 @@ fn add_whole(
 /// Adds the place of the error in a rejected key.
 fn add_error(
     alloc: Global,
-    places: &Places,
+    locations: &Locations,
     key: &str,
     finding: &Finding,
     found: &mut Vec<Location>,
@@ -98,7 +102,7 @@ fn add_error(
                 start: span.start,
                 end: span.end,
             };
-            add_parts(alloc, places, key, &[part], found)
+            add_parts(alloc, locations, key, &[part], found)
         }
         None => Ok(()),
     }
@@ -107,15 +111,15 @@ fn add_error(
 /// Returns the places that a finding on a key points to: names and pairs, fields, or an error, and else the key.
 fn places_of(
     alloc: Global,
-    places: &Places,
+    locations: &Locations,
     key: &str,
     finding: &Finding,
 ) -> Result<Vec<Location>, AllocError> {
     let mut found = Vec::new(alloc);
-    add_parts(alloc, places, key, &finding.pointed.facts, &mut found)?;
-    add_fields(alloc, places, key, &finding.pointed.fields, &mut found)?;
-    add_error(alloc, places, key, finding, &mut found)?;
-    add_whole(alloc, places, key, &mut found)?;
+    add_parts(alloc, locations, key, &finding.pointed.facts, &mut found)?;
+    add_fields(alloc, locations, key, &finding.pointed.fields, &mut found)?;
+    add_error(alloc, locations, key, finding, &mut found)?;
+    add_whole(alloc, locations, key, &mut found)?;
     found.sort_by_key(|at| at.span.start)?;
     Ok(found)
 }
@@ -123,15 +127,15 @@ fn places_of(
 /// Returns the places that a finding points to. One without a key points to `target`.
 fn places_in(
     alloc: Global,
-    places: &Places,
+    locations: &Locations,
     key: &Option<String>,
     finding: &Finding,
 ) -> Result<Vec<Location>, AllocError> {
     if let Some(key) = key {
-        return places_of(alloc, places, key.as_str(), finding);
+        return places_of(alloc, locations, key.as_str(), finding);
     }
     let mut found = Vec::new(alloc);
-    if let Some(at) = places.target {
+    if let Some(at) = locations.target {
         found.push(at)?;
     }
     Ok(found)
@@ -140,13 +144,13 @@ fn places_in(
 /// Returns the label of the earlier key with which a finding compares the key.
 fn label_of(
     alloc: Global,
-    places: &Places,
+    locations: &Locations,
     finding: &Finding,
 ) -> Result<Option<Label>, AllocError> {
     let Some(earlier) = &finding.pointed.earlier else {
         return Ok(None);
     };
-    match whole_key(alloc, places, earlier.as_str())? {
+    match whole_key(alloc, locations, earlier.as_str())? {
         Some(at) => Ok(Some(Label { at, text: EARLIER })),
         None => Ok(None),
     }
@@ -155,11 +159,11 @@ fn label_of(
 /// Returns the place of the whole key, with its quotes, if there is one and its place is known.
 fn key_at(
     alloc: Global,
-    places: &Places,
+    locations: &Locations,
     key: &Option<String>,
 ) -> Result<Option<Location>, AllocError> {
     match key {
-        Some(key) => places.located_key(alloc, key.as_str()),
+        Some(key) => locations.located_key(alloc, key.as_str()),
         None => Ok(None),
     }
 }
@@ -167,12 +171,12 @@ fn key_at(
 /// Returns the later places of a key, if there is one, and a suggestion for it.
 fn key_again(
     alloc: Global,
-    places: &Places,
+    locations: &Locations,
     key: &Option<String>,
     is_suggested: bool,
 ) -> Result<Vec<Location>, AllocError> {
     match key {
-        Some(key) if is_suggested => places.again_at_key(alloc, key.as_str()),
+        Some(key) if is_suggested => locations.again_at_key(alloc, key.as_str()),
         _ => Ok(Vec::new(alloc)),
     }
 }
@@ -196,16 +200,16 @@ fn copied_children(children: &Children) -> Result<Children, AllocError> {
 /// Returns the diagnostic for a finding of a report on a manifest. Fails if memory is refused.
 pub fn diagnostic_of(
     alloc: Global,
-    places: &Places,
+    locations: &Locations,
     report: &Report<'_>,
     finding: &Finding,
 ) -> Result<Diagnostic, AllocError> {
     let lint = Lint::Key(finding.code);
     let key = key_text(alloc, report, finding)?;
-    let primary = places_in(alloc, places, &key, finding)?;
-    let label = label_of(alloc, places, finding)?;
-    let key_at = key_at(alloc, places, &key)?;
-    let also_at = key_again(alloc, places, &key, finding.suggestion.is_some())?;
+    let primary = places_in(alloc, locations, &key, finding)?;
+    let label = label_of(alloc, locations, finding)?;
+    let key_at = key_at(alloc, locations, &key)?;
+    let also_at = key_again(alloc, locations, &key, finding.suggestion.is_some())?;
     Ok(Diagnostic {
         lint: Some(lint),
         level: default_level(lint, finding.level),
@@ -225,14 +229,14 @@ pub fn diagnostic_of(
 /// Returns the place of what is at fault, if it is known. `key` is the key that the diagnostic is about.
 fn place_of_site(
     alloc: Global,
-    places: &Places,
+    locations: &Locations,
     key: &str,
     site: &Site,
 ) -> Result<Option<Location>, AllocError> {
     match site {
-        Site::Named(path) => Ok(places.at_path(path.as_str())),
-        Site::Field(key, field) => places.at_field(alloc, key.as_str(), field.as_str()),
-        Site::InKey(Some(part)) => places.located_part(alloc, key, *part),
+        Site::Named(path) => Ok(locations.at_path(path.as_str())),
+        Site::Field(key, field) => locations.at_field(alloc, key.as_str(), field.as_str()),
+        Site::InKey(Some(part)) => locations.located_part(alloc, key, *part),
         Site::InKey(None) => Ok(None),
     }
 }
@@ -240,7 +244,7 @@ fn place_of_site(
 /// Returns the places of what is at fault, or else of the key.
 fn places_of_wrong(
     alloc: Global,
-    places: &Places,
+    locations: &Locations,
     wrong: &WrongPlace,
 ) -> Result<Vec<Location>, AllocError> {
     let mut found = Vec::new(alloc);
@@ -248,22 +252,26 @@ fn places_of_wrong(
         Some(key) => key.as_str(),
         None => "",
     };
-    if let Some(at) = place_of_site(alloc, places, key, &wrong.site)? {
+    if let Some(at) = place_of_site(alloc, locations, key, &wrong.site)? {
         found.push(at)?;
     }
     if wrong.key.is_some() {
-        add_whole(alloc, places, key, &mut found)?;
+        add_whole(alloc, locations, key, &mut found)?;
     }
     Ok(found)
 }
 
 /// Returns the later places of what is at fault, if there are any.
-fn site_again(alloc: Global, places: &Places, site: &Site) -> Result<Vec<Location>, AllocError> {
+fn site_again(
+    alloc: Global,
+    locations: &Locations,
+    site: &Site,
+) -> Result<Vec<Location>, AllocError> {
     match site {
-        Site::Named(path) => places.again_at_path(alloc, path.as_str()),
+        Site::Named(path) => locations.again_at_path(alloc, path.as_str()),
         Site::Field(key, field) => {
-            let path = places.path_of_field(alloc, key.as_str(), field.as_str())?;
-            places.again_at_path(alloc, path.as_str())
+            let path = locations.path_of_field(alloc, key.as_str(), field.as_str())?;
+            locations.again_at_path(alloc, path.as_str())
         }
         Site::InKey(_) => Ok(Vec::new(alloc)),
     }
@@ -272,16 +280,16 @@ fn site_again(alloc: Global, places: &Places, site: &Site) -> Result<Vec<Locatio
 /// Returns the place of what a suggestion replaces, the key or else the name at fault, and the later places of that.
 fn replaced_by(
     alloc: Global,
-    places: &Places,
+    locations: &Locations,
     wrong: &WrongPlace,
 ) -> Result<(Option<Location>, Vec<Location>), AllocError> {
     let is_suggested = wrong.suggestion.is_some();
     if wrong.key.is_some() || !is_suggested {
-        let at = key_at(alloc, places, &wrong.key)?;
-        return Ok((at, key_again(alloc, places, &wrong.key, is_suggested)?));
+        let at = key_at(alloc, locations, &wrong.key)?;
+        return Ok((at, key_again(alloc, locations, &wrong.key, is_suggested)?));
     }
-    let at = place_of_site(alloc, places, "", &wrong.site)?;
-    Ok((at, site_again(alloc, places, &wrong.site)?))
+    let at = place_of_site(alloc, locations, "", &wrong.site)?;
+    Ok((at, site_again(alloc, locations, &wrong.site)?))
 }
 
 /// Returns a text of the program as an owned one.
@@ -295,10 +303,10 @@ fn owned(alloc: Global, text: Option<&str>) -> Result<Option<String>, AllocError
 /// Returns the diagnostic for a name in a wrong place. Fails if memory is refused.
 pub fn diagnostic_of_wrong(
     alloc: Global,
-    places: &Places,
+    locations: &Locations,
     wrong: &WrongPlace,
 ) -> Result<Diagnostic, AllocError> {
-    let (key_at, also_at) = replaced_by(alloc, places, wrong)?;
+    let (key_at, also_at) = replaced_by(alloc, locations, wrong)?;
     Ok(Diagnostic {
         lint: Some(wrong.lint),
         level: default_level(wrong.lint, wrong.level),
@@ -306,7 +314,7 @@ pub fn diagnostic_of_wrong(
         key: copied(&wrong.key)?,
         message: wrong.message.clone()?,
         children: copied_children(&wrong.children)?,
-        primary: places_of_wrong(alloc, places, wrong)?,
+        primary: places_of_wrong(alloc, locations, wrong)?,
         label: None,
         key_at,
         also_at,

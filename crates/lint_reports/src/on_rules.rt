@@ -5,7 +5,7 @@ use crate::settings::{Fault, FaultAt, TOOL, UNDERSCORED_TOOL, WORDS, is_fact};
 use cargo_platform::{inside_cfg, shown_start};
 use diagnostics::{Diagnostic, Rule, default_level};
 use manifest_lints_findings::{Children, Lint, near};
-use manifests::places::{Location, Places, path_of};
+use manifests::locations::{Location, Locations, path_of};
 use std::alloc::{AllocError, Global};
 
 /// The table that contains the table of rules.
@@ -147,28 +147,32 @@ fn path_in(
 }
 
 /// Returns the place of the whole table of rules in a part of a manifest.
-fn at_table(alloc: Global, places: &Places, part: &str) -> Result<Option<Location>, AllocError> {
+fn at_table(
+    alloc: Global,
+    locations: &Locations,
+    part: &str,
+) -> Result<Option<Location>, AllocError> {
     let path = path_of(alloc, &[part, METADATA, TOOL])?;
-    Ok(places.at_path(path.as_str()))
+    Ok(locations.at_path(path.as_str()))
 }
 
 /// Returns the place of an entry of the rules in a part of a manifest, or else of the field, or else of the table.
 fn place_in(
     alloc: Global,
-    places: &Places,
+    locations: &Locations,
     part: &str,
     field: &str,
     entry: Option<usize>,
 ) -> Result<Option<Location>, AllocError> {
     let path = path_in(alloc, part, field, entry)?;
-    if let Some(at) = places.at_path(path.as_str()) {
+    if let Some(at) = locations.at_path(path.as_str()) {
         return Ok(Some(at));
     }
     let path = path_in(alloc, part, field, None)?;
-    if let Some(at) = places.at_path(path.as_str()) {
+    if let Some(at) = locations.at_path(path.as_str()) {
         return Ok(Some(at));
     }
-    at_table(alloc, places, part)
+    at_table(alloc, locations, part)
 }
 
 /// Returns a diagnostic on the rules in a part of a manifest, at this place.
@@ -203,7 +207,7 @@ fn on_rules(
 /// Returns the diagnostic on an error in the rules of `part`, `package` or `workspace`. Fails if memory is refused.
 pub fn diagnostic_of_fault(
     alloc: Global,
-    places: &Places,
+    locations: &Locations,
     part: &str,
     it: &FaultAt,
 ) -> Result<Diagnostic, AllocError> {
@@ -211,9 +215,9 @@ pub fn diagnostic_of_fault(
     let at = match it.fault {
         Fault::Underscored => {
             let path = path_of(alloc, &[part, METADATA, UNDERSCORED_TOOL])?;
-            places.at_path(path.as_str())
+            locations.at_path(path.as_str())
         }
-        _ => place_in(alloc, places, part, it.field.as_str(), it.entry)?,
+        _ => place_in(alloc, locations, part, it.field.as_str(), it.entry)?,
     };
     on_rules(alloc, Lint::Settings, part, wrong, at)
 }
@@ -222,7 +226,7 @@ pub fn diagnostic_of_fault(
 /// memory is refused.
 pub fn diagnostic_of_unneeded(
     alloc: Global,
-    places: &Places,
+    locations: &Locations,
     part: &str,
     rule: &Rule,
 ) -> Result<Diagnostic, AllocError> {
@@ -231,8 +235,8 @@ pub fn diagnostic_of_unneeded(
         children: Children::of_help(alloc, String::from_str(alloc, "remove this entry")?)?,
     };
     let path = path_in(alloc, part, rule.setting.word(), rule.entry)?;
-    let entry = places.at_path(path.as_str());
-    let at = place_in(alloc, places, part, rule.setting.word(), rule.entry)?;
+    let entry = locations.at_path(path.as_str());
+    let at = place_in(alloc, locations, part, rule.setting.word(), rule.entry)?;
     let mut diagnostic = on_rules(alloc, Lint::UnneededAllow, part, wrong, at)?;
     if rule.key.is_none() && rule.entry.is_some() && entry.is_some() {
         diagnostic.key_at = entry;

@@ -4,7 +4,7 @@ use crate::codes::{Explained, all_explained};
 use crate::escapes::uri_of;
 use diagnostics::{LintLevel, Replacement, Reported, end_of, level_word, replacement_of};
 use key_answers::json_lines;
-use manifests::places::Location as Place;
+use manifests::locations::Location as Place;
 use serde::Serialize;
 use std::alloc::{AllocError, Global};
 

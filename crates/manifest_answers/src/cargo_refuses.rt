@@ -5,7 +5,7 @@ use cargo_platform::shown_start;
 use input_limits::without_mark;
 use manifest_lints_findings::{Level, shown_table, wrong_places};
 use manifests::key_places::place_of_path;
-use manifests::places::Location;
+use manifests::locations::Location;
 use manifests::{Kind, table_of};
 use std::alloc::{AllocError, Global};
 use toml::{Table, Value};

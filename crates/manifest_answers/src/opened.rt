@@ -3,8 +3,8 @@
 use cargo_platform::{Platform, ReadError, values_of};
 use key_answers::printing::shown_name;
 use manifest_lints_findings::near;
-use manifest_lints_standings::rustc_names::name_in;
 use manifests::{Targets, target_keys};
+use predicate_classes::rustc_names::name_in;
 use std::alloc::{AllocError, Global};
 use toml::Table;
 

@@ -15,7 +15,7 @@ use key_answers::json_lines;
 use key_answers::printing::{fact_lines, refused_cfg, refused_fact, shown_name};
 use key_answers::targets::names_of;
 use known_targets::{COUNT, KnownTarget, RUSTC_VERSION, TargetSet, having, matching};
-use manifest_lints_findings::{Code, Finding, Words, nearest_target, unknown_in};
+use manifest_lints_findings::{Code, Finding, KnownFacts, nearest_target, unknown_in};
 use serde::Serialize;
 use std::alloc::{AllocError, Global};
 
@@ -86,9 +86,9 @@ fn unknown_lines(
     condition: Platform,
     has_facts: bool,
 ) -> Result<String, AllocError> {
-    let words = Words::new(alloc)?;
+    let known_facts = KnownFacts::new(alloc)?;
     let mut text = String::new(alloc);
-    for finding in &unknown_in(alloc, &words, key, condition)? {
+    for finding in &unknown_in(alloc, &known_facts, key, condition)? {
         if is_reported(finding.code, has_facts) {
             push_finding(&mut text, alloc, finding)?;
         }
@@ -209,8 +209,8 @@ fn within_cfg(alloc: Global, name: &str) -> Result<Option<String>, AllocError> {
 /// Returns the key that `lint` suggests in place of a name which no known target has.
 fn suggested_key(alloc: Global, name: &str) -> Result<Option<String>, AllocError> {
     let condition = Platform::Name(String::from_str(alloc, name)?);
-    let words = Words::new(alloc)?;
-    for finding in &unknown_in(alloc, &words, name, condition)? {
+    let known_facts = KnownFacts::new(alloc)?;
+    for finding in &unknown_in(alloc, &known_facts, name, condition)? {
         if let Some(key) = &finding.suggestion {
             return Ok(Some(key.clone()?));
         }

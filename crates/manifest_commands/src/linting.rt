@@ -18,9 +18,9 @@ use lint_reports::{
     Counts, Formers, Printed, Project, Settings, Style, diagnostic_of, diagnostic_of_fault,
     diagnostic_of_unneeded, diagnostic_of_wrong, wrong_fields,
 };
-use manifest_lints::{Code, Finding, Report, Words, lint};
+use manifest_lints::{Code, Finding, KnownFacts, Report, lint};
 use manifest_lints_findings::{WrongPlace, wrong_places};
-use manifests::places::Places;
+use manifests::locations::Locations;
 use manifests::reading::Manifest;
 use std::alloc::{AllocError, Global};
 use std::mem;
@@ -173,16 +173,16 @@ impl<'a> LintRun<'a> {
         fixing: Fixing,
     ) -> Result<(), AllocError> {
         let alloc = rt.alloc();
-        let places = places_at(rt, &mut self.documents, root.file.as_str())?;
+        let locations = places_at(rt, &mut self.documents, root.file.as_str())?;
         let mut fixes = Fixes::new(alloc, fixing);
-        for diagnostic in &found_in_root(alloc, root, &places, is_whole)? {
+        for diagnostic in &found_in_root(alloc, root, &locations, is_whole)? {
             let rules = Rules {
                 of_workspace: &root.settings.rules,
                 of_package: &[],
                 of_command: &self.options.rules,
             };
             if lint_level(&rules, diagnostic) != LintLevel::Allowed {
-                fixes.add(alloc, places.text.as_str(), diagnostic)?;
+                fixes.add(alloc, locations.text.as_str(), diagnostic)?;
             }
         }
         let answer = fix_file(rt, &mut self.documents, root.file.as_str(), fixes)?;
@@ -207,8 +207,8 @@ impl<'a> LintRun<'a> {
             self.fix_root(rt, root, is_whole, fixing)?;
         }
         let path = shown_text(alloc, root.file.as_str())?;
-        let places = places_at(rt, &mut self.documents, root.file.as_str())?;
-        let found = found_in_root(alloc, root, &places, is_whole)?;
+        let locations = places_at(rt, &mut self.documents, root.file.as_str())?;
+        let found = found_in_root(alloc, root, &locations, is_whole)?;
         let rules = Rules {
             of_workspace: &root.settings.rules,
             of_package: &[],
@@ -216,7 +216,7 @@ impl<'a> LintRun<'a> {
         };
         let source = Source {
             path: path.as_str(),
-            text: places.text.as_str(),
+            text: locations.text.as_str(),
         };
         self.report_each(alloc, &rules, &source, &found)
     }
@@ -240,11 +240,11 @@ impl<'a> LintRun<'a> {
         };
         let source = Source {
             path: manifest.path.as_str(),
-            text: manifest.document.places.text.as_str(),
+            text: manifest.document.locations.text.as_str(),
         };
         self.report_each(alloc, &rules, &source, found)?;
-        let places = &manifest.document.places;
-        let found = found_in_settings(alloc, settings, places, &occurrences)?;
+        let locations = &manifest.document.locations;
+        let found = found_in_settings(alloc, settings, locations, &occurrences)?;
         self.report_each(alloc, &rules, &source, &found)
     }
 }
@@ -254,11 +254,11 @@ fn places_at<R: Files + AllocGlobal>(
     rt: &R,
     documents: &mut Documents,
     file: &str,
-) -> Result<Places, AllocError> {
+) -> Result<Locations, AllocError> {
     let alloc = rt.alloc();
     match documents.get(rt, file)? {
-        Some(document) => Places::of(alloc, without_mark(document.text.as_str())),
-        None => Ok(Places::none(alloc)),
+        Some(document) => Locations::of(alloc, without_mark(document.text.as_str())),
+        None => Ok(Locations::none(alloc)),
     }
 }
 
@@ -266,16 +266,16 @@ fn places_at<R: Files + AllocGlobal>(
 fn found_in_root(
     alloc: Global,
     root: &Root,
-    places: &Places,
+    locations: &Locations,
     is_whole: bool,
 ) -> Result<Vec<Diagnostic>, AllocError> {
-    let mut found = faults_in(alloc, &root.settings, places, WORKSPACE)?;
+    let mut found = faults_in(alloc, &root.settings, locations, WORKSPACE)?;
     if !is_whole {
         return Ok(found);
     }
     for (rule, is_needed) in root.settings.rules.iter().zip(&root.needed) {
         if is_unneeded(rule, *is_needed) {
-            found.push(diagnostic_of_unneeded(alloc, places, WORKSPACE, rule)?)?;
+            found.push(diagnostic_of_unneeded(alloc, locations, WORKSPACE, rule)?)?;
         }
     }
     Ok(found)
@@ -285,12 +285,12 @@ fn found_in_root(
 fn faults_in(
     alloc: Global,
     settings: &Settings,
-    places: &Places,
+    locations: &Locations,
     part: &str,
 ) -> Result<Vec<Diagnostic>, AllocError> {
     let mut found = Vec::new(alloc);
     for fault in &settings.faults {
-        found.push(diagnostic_of_fault(alloc, places, part, fault)?)?;
+        found.push(diagnostic_of_fault(alloc, locations, part, fault)?)?;
     }
     Ok(found)
 }
@@ -299,13 +299,13 @@ fn faults_in(
 fn found_in_settings(
     alloc: Global,
     settings: &Settings,
-    places: &Places,
+    locations: &Locations,
     occurrences: &[Occurrence<'_>],
 ) -> Result<Vec<Diagnostic>, AllocError> {
-    let mut found = faults_in(alloc, settings, places, PACKAGE)?;
+    let mut found = faults_in(alloc, settings, locations, PACKAGE)?;
     for rule in &settings.rules {
         if is_unneeded(rule, rule.is_needed(occurrences)) {
-            found.push(diagnostic_of_unneeded(alloc, places, PACKAGE, rule)?)?;
+            found.push(diagnostic_of_unneeded(alloc, locations, PACKAGE, rule)?)?;
         }
     }
     Ok(found)
@@ -331,8 +331,8 @@ impl<'a> LintRun<'a> {
         report: &Report<'_>,
         beside: &Beside<'_>,
     ) -> Result<(), AllocError> {
-        let places = &manifest.document.places;
-        let found = found_in(alloc, root, places, report, beside)?;
+        let locations = &manifest.document.locations;
+        let found = found_in(alloc, root, locations, report, beside)?;
         self.report_on_manifest(alloc, root, beside.settings, manifest, &found)
     }
 }
@@ -384,7 +384,7 @@ struct OnKey {
 fn found_on_keys(
     alloc: Global,
     root: &Root,
-    places: &Places,
+    locations: &Locations,
     report: &Report<'_>,
     beside: &Beside<'_>,
 ) -> Result<Vec<OnKey>, AllocError> {
@@ -393,11 +393,11 @@ fn found_on_keys(
         if !is_left_out(root, report, beside, finding) {
             found.push(OnKey {
                 index: finding.key.unwrap_or(0),
-                diagnostic: diagnostic_of(alloc, places, report, finding)?,
+                diagnostic: diagnostic_of(alloc, locations, report, finding)?,
             })?;
         }
     }
-    for diagnostic in formers_in(alloc, places, &beside.formers)? {
+    for diagnostic in formers_in(alloc, locations, &beside.formers)? {
         let mut keys = report.keys.iter();
         let index = keys.position(|it| diagnostic.key() == Some(it.text));
         found.push(OnKey {
@@ -413,7 +413,7 @@ fn found_on_keys(
 fn found_in(
     alloc: Global,
     root: &Root,
-    places: &Places,
+    locations: &Locations,
     report: &Report<'_>,
     beside: &Beside<'_>,
 ) -> Result<Vec<Diagnostic>, AllocError> {
@@ -421,11 +421,11 @@ fn found_in(
     for OnKey {
         index: _,
         diagnostic,
-    } in found_on_keys(alloc, root, places, report, beside)? {
+    } in found_on_keys(alloc, root, locations, report, beside)? {
         found.push(diagnostic)?;
     }
     for it in &beside.wrong {
-        found.push(diagnostic_of_wrong(alloc, places, it)?)?;
+        found.push(diagnostic_of_wrong(alloc, locations, it)?)?;
     }
     Ok(found)
 }
@@ -433,12 +433,12 @@ fn found_in(
 /// Returns the diagnostics on names that rustc knew only until some release, in the order of their places.
 fn formers_in(
     alloc: Global,
-    places: &Places,
+    locations: &Locations,
     formers: &Formers,
 ) -> Result<Vec<Diagnostic>, AllocError> {
     let mut found = Vec::new(alloc);
     for it in &formers.found {
-        found.push(diagnostic_of_wrong(alloc, places, it)?)?;
+        found.push(diagnostic_of_wrong(alloc, locations, it)?)?;
     }
     found.sort_by_key(|it| it.location().map_or(0, |at| at.span.start))?;
     Ok(found)
@@ -501,10 +501,10 @@ fn declare_formers(
 fn report_on<'m>(
     alloc: Global,
     manifest: &'m Manifest,
-    words: &Words,
+    known_facts: &KnownFacts,
     other: &Option<OtherRustc>,
 ) -> Result<Report<'m>, AllocError> {
-    let mut report = lint(alloc, &manifest.document, words)?;
+    let mut report = lint(alloc, &manifest.document, known_facts)?;
     judge_by(alloc, other, &manifest.document.table, &mut report)?;
     Ok(report)
 }
@@ -513,7 +513,7 @@ fn report_on<'m>(
 fn lint_configuration<R: Files + Input + AllocGlobal>(
     rt: &R,
     path: &str,
-    words: &Words,
+    known_facts: &KnownFacts,
     root: &mut Root,
     run: &mut LintRun<'_>,
 ) -> Result<(), AllocError> {
@@ -537,7 +537,7 @@ fn lint_configuration<R: Files + Input + AllocGlobal>(
     let formers = declare_formers(alloc, &mut table, &project)?;
     manifest.document.table = table;
     root.hides_lints = false;
-    let mut report = report_on(alloc, &manifest, words, &run.options.other)?;
+    let mut report = report_on(alloc, &manifest, known_facts, &run.options.other)?;
     explain_unsupported(alloc, &mut report.findings)?;
     run.counts.add_configuration(report.keys.len());
     let beside = Beside {
@@ -552,7 +552,7 @@ fn lint_configuration<R: Files + Input + AllocGlobal>(
 fn lint_at<R: Files + Input + Env + AllocGlobal>(
     rt: &R,
     path: &str,
-    words: &Words,
+    known_facts: &KnownFacts,
     root: &mut Root,
     run: &mut LintRun<'_>,
 ) -> Result<(), AllocError> {
@@ -574,7 +574,7 @@ fn lint_at<R: Files + Input + Env + AllocGlobal>(
         targets: given_formers(&run.options.other),
     };
     let formers = declare_formers(alloc, table, &project)?;
-    let report = report_on(alloc, &manifest, words, &run.options.other)?;
+    let report = report_on(alloc, &manifest, known_facts, &run.options.other)?;
     let wrong = wrong_places(alloc, &manifest.document.table)?;
     run.counts.add_manifest(report.keys.len());
     let beside = Beside {
@@ -589,14 +589,14 @@ fn lint_at<R: Files + Input + Env + AllocGlobal>(
 fn lint_file<R: Files + Input + Env + AllocGlobal>(
     rt: &R,
     path: &str,
-    words: &Words,
+    known_facts: &KnownFacts,
     root: &mut Root,
     run: &mut LintRun<'_>,
 ) -> Result<(), AllocError> {
     if is_configuration(path) {
-        lint_configuration(rt, path, words, root, run)
+        lint_configuration(rt, path, known_facts, root, run)
     } else {
-        lint_at(rt, path, words, root, run)
+        lint_at(rt, path, known_facts, root, run)
     }
 }
 
@@ -604,7 +604,7 @@ fn lint_file<R: Files + Input + Env + AllocGlobal>(
 fn fixes_for<R: Files + Input + Env + AllocGlobal>(
     rt: &R,
     path: &str,
-    words: &Words,
+    known_facts: &KnownFacts,
     root: &mut Root,
     run: &mut LintRun<'_>,
 ) -> Result<Option<Fixes>, AllocError> {
@@ -622,7 +622,7 @@ fn fixes_for<R: Files + Input + Env + AllocGlobal>(
         answer: Answer::of(alloc, String::new(alloc), Status::Fine),
         fixes: Some(Fixes::new(alloc, fixing)),
     };
-    lint_file(rt, path, words, root, &mut collecting)?;
+    lint_file(rt, path, known_facts, root, &mut collecting)?;
     let LintRun {
         options: _,
         documents,
@@ -640,15 +640,15 @@ fn fixes_for<R: Files + Input + Env + AllocGlobal>(
 fn lint_fixed<R: Files + Input + Env + AllocGlobal>(
     rt: &R,
     path: &str,
-    words: &Words,
+    known_facts: &KnownFacts,
     root: &mut Root,
     run: &mut LintRun<'_>,
 ) -> Result<(), AllocError> {
-    if let Some(fixes) = fixes_for(rt, path, words, root, run)? {
+    if let Some(fixes) = fixes_for(rt, path, known_facts, root, run)? {
         let answer = fix_file(rt, &mut run.documents, path, fixes)?;
         run.answer.append(answer)?;
     }
-    lint_file(rt, path, words, root, run)
+    lint_file(rt, path, known_facts, root, run)
 }
 
 /// Returns whether one of the paths leads to the file.
@@ -669,12 +669,12 @@ fn lint_named<R: Files + Input + Env + AllocGlobal>(
     rt: &R,
     paths: &[&str],
     path: &str,
-    words: &Words,
+    known_facts: &KnownFacts,
     root: &mut Root,
     run: &mut LintRun<'_>,
 ) -> Result<(), AllocError> {
     let alloc = rt.alloc();
-    lint_fixed(rt, path, words, root, run)?;
+    lint_fixed(rt, path, known_facts, root, run)?;
     if is_configuration(path) || !root.is_at(alloc, path)? {
         return Ok(());
     }
@@ -684,7 +684,7 @@ fn lint_named<R: Files + Input + Env + AllocGlobal>(
             if has_path(alloc, paths, file.as_str())? {
                 return Ok(());
             }
-            lint_fixed(rt, file.as_str(), words, root, run)
+            lint_fixed(rt, file.as_str(), known_facts, root, run)
         }
         None => Ok(()),
     }
@@ -708,7 +708,7 @@ pub fn lint_each<R: Files + Input + Env + AllocGlobal>(
     documents: Documents,
 ) -> Result<Answer, AllocError> {
     let alloc = rt.alloc();
-    let words = Words::new(alloc)?;
+    let known_facts = KnownFacts::new(alloc)?;
     let printed = Printed::new(alloc, options.style);
     let begin = printed.begin(alloc, options.version.as_str())?;
     let mut run = LintRun {
@@ -730,7 +730,7 @@ pub fn lint_each<R: Files + Input + Env + AllocGlobal>(
             run.report_on_root(rt, &mut root)?;
             root = other;
         }
-        lint_named(rt, paths, path, &words, &mut root, &mut run)?;
+        lint_named(rt, paths, path, &known_facts, &mut root, &mut run)?;
     }
     run.report_on_root(rt, &mut root)?;
     let LintRun {

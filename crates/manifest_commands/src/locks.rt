@@ -10,7 +10,7 @@ use graph_answers::bill_of_materials::Bill;
 use input_limits::without_mark;
 use key_answers::answer::Refusal;
 use lint_reports::{Format, Printed, Style};
-use manifests::places::Location;
+use manifests::locations::Location;
 use std::alloc::{AllocError, Global};
 use std::rt::Files;
 use toml_spans::{Position, Span};

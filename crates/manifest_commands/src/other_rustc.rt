@@ -8,8 +8,8 @@ use manifest_answers::given_targets::GivenTargets;
 use manifest_lints::{Code, Report};
 use manifest_lints_findings::readings::Spelled;
 use manifest_lints_findings::{Children, Finding, Pointed};
-use manifest_lints_standings::key_predicates::{key_predicates, open_names};
 use manifests::Declared;
+use predicate_classes::key_predicates::{key_predicates, open_names};
 use std::alloc::{AllocError, Global};
 use toml::Table;
 

@@ -6,8 +6,8 @@ use Rattle.cargo_platform.specs.Trees.{Condition, condition_of}
 use Rattle.cargo_platform.specs.declared.Platform.{Platform}
 use Rattle.exact_answers.specs.declared.known.Known.{Known}
 use Rattle.manifests.specs.Declarations.{DeclaredEntry}
-use Rattle.manifest_lints_standings.specs.declared.standing.Sort.TheVariants as sort
-use Rattle.manifest_lints_standings.specs.Standings.{sorted_by, sorted_in, has_sort}
+use Rattle.predicate_classes.specs.declared.classes.Category.TheVariants as category
+use Rattle.predicate_classes.specs.Classes.{classified_by, classified_in, has_category}
 use Rattle.manifest_lints_findings.specs.declared.codes.Code.{Code}
 use Rattle.manifest_lints_findings.specs.declared.codes.Code.TheVariants as code
 use Rattle.manifest_lints_findings.specs.declared.known_keys.KnownKey.{KnownKey}
@@ -15,7 +15,7 @@ use Rattle.manifest_lints_findings.specs.declared.readings.ReadKey.{ReadKey}
 use Rattle.manifest_lints_findings.specs.declared.readings.Spelled.{Spelled}
 use Rattle.manifest_lints_findings.specs.declared.readings.Spelled.TheVariants as spelled
 use Rattle.manifest_lints_findings.specs.Known.{IsKnown, holds_alone, is_refused, is_by_cargo, is_condition}
-use Rattle.manifest_lints_findings.specs.Known.{has_marked_literal, sorted_of_spelled, print_spelled, IsUnknownSpelled}
+use Rattle.manifest_lints_findings.specs.Known.{has_marked_literal, classified_of_spelled, print_spelled, IsUnknownSpelled}
 use Rattle.manifest_lints_findings.specs.NoTables.{is_no_table}
 use Rattle.manifest_lints_findings.specs.Spells.{IsSpelledAs, SpellsNothing, IsRead, entry_read}
 use Rattle.manifest_lints.specs.Truths.{IsNever, IsAlways, CanHold, CanFail}
@@ -72,7 +72,7 @@ beside_others k ds c a earlier open_too now_open is f = record {
 }
 
 -- a key that spells no condition asks for nothing, is the name of no target, and Cargo refuses or reads it
-nothing_asked : (ds : List DeclaredEntry) (s : Spelled) → is_condition s ≡ false → sorted_of_spelled ds s ≡ []
+nothing_asked : (ds : List DeclaredEntry) (s : Spelled) → is_condition s ≡ false → classified_of_spelled ds s ≡ []
 nothing_asked ds (spelled.Condition p) h = absurd (true≢false h)
 nothing_asked ds (spelled.ByCargo m) h = refl
 nothing_asked ds (spelled.Refused e) h = refl
@@ -106,8 +106,8 @@ module _ (k : Known) (ds : List DeclaredEntry) (r : ReadKey) (key : KnownKey) (k
       (named : NamesRightly k es (condition_of p) a.earlier)
       (none_missed : is_equivalent a.earlier ≡ false → a.is_open ≡ false → MissesNone k es ns (condition_of p))
       (left_open : IsTrue a.is_open → MayBeOpen k ds es r.text.now (condition_of p)) where
-    asked_is : sorted_by key.predicates.items ≡ sorted_in ds (condition_of p)
-    asked_is = known.predicates ∙ ap (sorted_of_spelled ds) is
+    asked_is : classified_by key.predicates.items ≡ classified_in ds (condition_of p)
+    asked_is = known.predicates ∙ ap (classified_of_spelled ds) is
 
     found : CheckedKey
     found = record { key = key; answers = a }
@@ -118,17 +118,17 @@ module _ (k : Known) (ds : List DeclaredEntry) (r : ReadKey) (key : KnownKey) (k
     of_spelled code.NoTable = tables_are
     of_spelled code.ReadOtherwise =
         (λ i. is_by_cargo ((spelled_is ∙ is) i) || has_marked_literal (asked_is i))
-    of_spelled code.Unsupported = ap (has_sort sort.Unsupported) asked_is
+    of_spelled code.Unsupported = ap (has_category category.Unsupported) asked_is
     of_spelled code.Never = answers.never
     of_spelled code.UnknownTarget =
         subst (λ s. IsTrue key.is_unknown_target ↔ IsUnknownSpelled s) is known.unknown_target
-    of_spelled code.UnknownFact = ap (has_sort sort.Mistaken) asked_is
+    of_spelled code.UnknownFact = ap (has_category category.Mistaken) asked_is
     of_spelled code.Nowhere = answers.nowhere
     of_spelled code.Same = same
     of_spelled code.Equivalent = alike
     of_spelled code.Always = answers.always
     of_spelled code.Everywhere = answers.everywhere
-    of_spelled code.Custom = ap (has_sort sort.Custom) asked_is
+    of_spelled code.Custom = ap (has_category category.Custom) asked_is
     of_spelled code.NotCanonical =
         (λ i. is_condition ((spelled_is ∙ is) i)
         && not (bytes_eq ((known.canonical ∙ ap print_spelled is) i) ((ap (λ z. z.text.now) known.read) i)))
@@ -150,8 +150,8 @@ module _ (k : Known) (ds : List DeclaredEntry) (r : ReadKey) (key : KnownKey) (k
     unspelled : CheckedKey
     unspelled = record { key = key; answers = NONE }
 
-    none_asked : sorted_by key.predicates.items ≡ []
-    none_asked = known.predicates ∙ ap (sorted_of_spelled ds) is ∙ nothing_asked ds s none
+    none_asked : classified_by key.predicates.items ≡ []
+    none_asked = known.predicates ∙ ap (classified_of_spelled ds) is ∙ nothing_asked ds s none
 
     of_unspelled : (c : Code) → HoldsUnspelled (is_refused s) (entry_read r) c (applicable_codes unspelled c)
     unfolding unspelled
@@ -159,18 +159,18 @@ module _ (k : Known) (ds : List DeclaredEntry) (r : ReadKey) (key : KnownKey) (k
     of_unspelled code.NoTable = tables_are
     of_unspelled code.ReadOtherwise =
         (λ i. is_by_cargo ((spelled_is ∙ is) i) || has_marked_literal (none_asked i)) ∙ one_of_two s none
-    of_unspelled code.Unsupported = ap (has_sort sort.Unsupported) none_asked
+    of_unspelled code.Unsupported = ap (has_category category.Unsupported) none_asked
     of_unspelled code.Never = refl
     of_unspelled code.UnknownTarget =
         not_true key.is_unknown_target
         (λ h. not_unknown s none (subst IsUnknownSpelled is (known.unknown_target.0 h)))
-    of_unspelled code.UnknownFact = ap (has_sort sort.Mistaken) none_asked
+    of_unspelled code.UnknownFact = ap (has_category category.Mistaken) none_asked
     of_unspelled code.Nowhere = refl
     of_unspelled code.Same = refl
     of_unspelled code.Equivalent = refl
     of_unspelled code.Always = refl
     of_unspelled code.Everywhere = refl
-    of_unspelled code.Custom = ap (has_sort sort.Custom) none_asked
+    of_unspelled code.Custom = ap (has_category category.Custom) none_asked
     of_unspelled code.NotCanonical =
         ap (λ b. b && not (bytes_eq (string_bytes key.canonical) key.read.now.text.now))
         (ap is_condition (spelled_is ∙ is) ∙ none)

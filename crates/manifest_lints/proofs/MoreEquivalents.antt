@@ -19,7 +19,7 @@ use Rattle.manifest_lints.specs.Earlier.{AddsMember, AreEquivalent, HasEquivalen
 use Rattle.manifest_lints.specs.Truths.{budget_of}
 use Rattle.manifests.specs.Declarations.{DeclaredEntry}
 use Rattle.manifests.specs.Entries.{Entry}
-use Rattle.manifest_lints_standings.specs.Standings.{sorted_in}
+use Rattle.predicate_classes.specs.Classes.{classified_in}
 use Rattle.manifest_lints.specs.Reports.{MayBeOpen, AreTooLong, too_deep, few_beside, many_before, long_before}
 use Rattle.manifest_lints.specs.Sames.{HasOne, IsOneAt, IsSpelledAt, AreMembers}
 use Rattle.manifest_lints.proofs.MoreSames.{at_has, at_more, at_last, at_so}
@@ -109,7 +109,7 @@ module _ (k : Known) (es : List Entry) (old : Keys) (c : Condition) (before : Ar
       (n : ℕ)
       → MatchOption budget ((decides ≡ true) ⊎ (IsTrue much ⊎ IsNestedBeyond text LEVELS))
       (λ splits. splits ≡ budget_of n)
-      → (IsTrue much → AreTooLong es text) → n ≡ length (sorted_in ds c) → (IsTrue undecided
+      → (IsTrue much → AreTooLong es text) → n ≡ length (classified_in ds c) → (IsTrue undecided
       → MayBeUndecided k budget old c)
       → (undecided && not decides) ≡ true → MayBeOpen k ds es text c
   open_beside ds text None decides much undecided n (inl decided) so long told is =

@@ -3,7 +3,7 @@ use Rattle.std.specs.Prelude.{◌<◌, true, false, List, IsTrue, length}
 use Rattle.cargo_platform.specs.Trees.{Condition}
 use Rattle.exact_answers.specs.declared.known.Known.{Known}
 use Rattle.manifests.specs.Declarations.{DeclaredEntry}
-use Rattle.manifest_lints_standings.specs.Standings.{sorted_in, open_in}
+use Rattle.predicate_classes.specs.Classes.{classified_in, open_in}
 use Rattle.manifest_lints_findings.specs.declared.codes.Code.TheVariants as code
 use Rattle.manifest_lints_findings.specs.Codes.{CodeSet}
 use Rattle.manifest_lints_findings.specs.Known.{holds_alone}
@@ -20,7 +20,7 @@ pub record AnswersFor (k : Known) (ds : List DeclaredEntry) (c : Condition) (a :
   pub always : Settles a.is_open a.always (IsAlways k c) (CanFail k c)
   pub nowhere : SettlesPlaces true ds c a.nowhere
   pub everywhere : SettlesPlaces false ds c a.everywhere
-  pub many : MANY < length (open_in (sorted_in ds c)) → IsTrue a.is_open
+  pub many : MANY < length (open_in (classified_in ds c)) → IsTrue a.is_open
 
 -- the lints that apply to a key: by its answers, and by the key itself
 abbrev pub applicable_codes : CheckedKey → CodeSet

@@ -3,7 +3,7 @@ use Rattle.std.specs.Prelude.{◌≡◌, ◌<◌, ◌+◌, ◌*◌, sum_by, ◌�
 use Rattle.std.specs.Prelude.{[], ◌∷◌, ◌++◌, map, length, get_or, cond, bytes_eq, string_bytes, Option, Some, None}
 use Rattle.std.specs.Prelude.{IfSome}
 use Rattle.std.specs.List.{All}
-use Rattle.std.specs.List.Sorted.{IsPermutation}
+use Rattle.std.specs.List.Classified.{IsPermutation}
 use Rattle.cargo_platform.specs.Trees.{Condition}
 use Rattle.cargo_platform.specs.Nesting.{IsNestedBeyond}
 use Rattle.cargo_platform.specs.Platforms.{IsConditionText}
@@ -14,13 +14,13 @@ use Rattle.exact_answers.specs.Asking.{NeedsMore}
 use Rattle.exact_answers.specs.Targets.{asked_trees}
 use Rattle.manifests.specs.Declarations.{DeclaredEntry, IsDeclaredBy}
 pub use Rattle.manifests.specs.Entries.{Entry, entry_of}
-use Rattle.manifest_lints_standings.specs.declared.standing.Sort.TheVariants as sort
-use Rattle.manifest_lints_standings.specs.Standings.{has_sort, sorted_in, open_in, IsUnknownTarget}
+use Rattle.predicate_classes.specs.declared.classes.Category.TheVariants as category
+use Rattle.predicate_classes.specs.Classes.{has_category, classified_in, open_in, IsUnknownTarget}
 use Rattle.manifest_lints_findings.specs.declared.codes.Code.{Code}
 use Rattle.manifest_lints_findings.specs.declared.codes.Code.TheVariants as code
 use Rattle.manifest_lints_findings.specs.declared.findings.Finding.{Finding}
 use Rattle.manifest_lints_findings.specs.declared.findings.Report.{Report}
-use Rattle.manifest_lints_findings.specs.Codes.{CodeSet, finding_level, is_reported, told_codes}
+use Rattle.manifest_lints_findings.specs.Codes.{CodeSet, finding_level, is_reported, reported_codes}
 use Rattle.manifest_lints_findings.specs.declared.known_keys.KnownKey.{KnownKey}
 use Rattle.manifest_lints_findings.specs.declared.readings.ReadKey.{ReadKey}
 use Rattle.manifest_lints_findings.specs.Known.{has_marked_literal, IsKnown}
@@ -52,11 +52,11 @@ Settles is_open b Is IsNot = (IsTrue b → Is) × (b ≡ false → is_open ≡ f
 -- it applies only if the condition never has this truth value on a known target, whichever facts with open names and
 -- keys are set; and if it does not apply, there is a reason
 abbrev pub SettlesPlaces : Bool → List DeclaredEntry → Condition → Bool → Type 0
-SettlesPlaces truth ds c b = SettlesOn truth (length (sorted_in ds c)) (open_in (sorted_in ds c)) c b
+SettlesPlaces truth ds c b = SettlesOn truth (length (classified_in ds c)) (open_in (classified_in ds c)) c b
 
 -- the number of case splits for a condition
 abbrev pub budget_in : List DeclaredEntry → Condition → ℕ
-budget_in ds c = budget_of (length (sorted_in ds c))
+budget_in ds c = budget_of (length (classified_in ds c))
 
 -- the number of bytes of some keys
 abbrev pub bytes_of : List Entry → ℕ
@@ -72,7 +72,7 @@ AreTooLong es text = WORK < length es * (bytes_of es + length text)
 pub data MayBeOpen (k : Known) (ds : List DeclaredEntry) (es : List Entry) (text : List ℕ) (c : Condition) : Type 0
   where
     too_deep : IsNestedBeyond text LEVELS → MayBeOpen k ds es text c
-    many_open : MANY < length (open_in (sorted_in ds c)) → MayBeOpen k ds es text c
+    many_open : MANY < length (open_in (classified_in ds c)) → MayBeOpen k ds es text c
     few_splits : NeedsMoreFor k c (budget_in ds c) → MayBeOpen k ds es text c
     few_beside : HasOne (λ d. NeedsMore k (asked_trees (d ∷ c ∷ [])) (budget_in ds c)) es → MayBeOpen k ds es text c
     many_before : MOST < length es → MayBeOpen k ds es text c
@@ -83,17 +83,17 @@ pub data MayBeOpen (k : Known) (ds : List DeclaredEntry) (es : List Entry) (text
 abbrev pub Holds : Known → List DeclaredEntry → List Entry → Entry → Condition → Bool → Code → Bool → Type 0
 Holds k ds es e c is_open code.Refused b = b ≡ false
 Holds k ds es e c is_open code.NoTable b = b ≡ is_no_table e.1
-Holds k ds es e c is_open code.ReadOtherwise b = b ≡ has_marked_literal (sorted_in ds c)
-Holds k ds es e c is_open code.Unsupported b = b ≡ has_sort sort.Unsupported (sorted_in ds c)
+Holds k ds es e c is_open code.ReadOtherwise b = b ≡ has_marked_literal (classified_in ds c)
+Holds k ds es e c is_open code.Unsupported b = b ≡ has_category category.Unsupported (classified_in ds c)
 Holds k ds es e c is_open code.Never b = Settles is_open b (IsNever k c) (CanHold k c)
 Holds k ds es e c is_open code.UnknownTarget b = IsTrue b ↔ IsUnknownTarget c
-Holds k ds es e c is_open code.UnknownFact b = b ≡ has_sort sort.Mistaken (sorted_in ds c)
+Holds k ds es e c is_open code.UnknownFact b = b ≡ has_category category.Mistaken (classified_in ds c)
 Holds k ds es e c is_open code.Nowhere b = SettlesPlaces true ds c b
 Holds k ds es e c is_open code.Same b = IsTrue b ↔ HasSame es c
 Holds k ds es e c is_open code.Equivalent b = IsTrue b → HasEquivalent k es c
 Holds k ds es e c is_open code.Always b = Settles is_open b (IsAlways k c) (CanFail k c)
 Holds k ds es e c is_open code.Everywhere b = SettlesPlaces false ds c b
-Holds k ds es e c is_open code.Custom b = b ≡ has_sort sort.Custom (sorted_in ds c)
+Holds k ds es e c is_open code.Custom b = b ≡ has_category category.Custom (classified_in ds c)
 Holds k ds es e c is_open code.NotCanonical b = b ≡ not (bytes_eq (print_condition c) e.0)
 
 -- the same for a key that is not a condition, and that Cargo rejects or accepts
@@ -113,7 +113,7 @@ pub record IsFoundSpelled (k : Known) (ds : List DeclaredEntry) (es : List Entry
   pub named : NamesRightly k es condition earlier
   pub none_missed : codes code.Equivalent ≡ false → is_open ≡ false → MissesNone k es ns condition
   pub left_open : IsTrue is_open → MayBeOpen k ds es e.0 condition
-  pub many : MANY < length (open_in (sorted_in ds condition)) → IsTrue is_open
+  pub many : MANY < length (open_in (classified_in ds condition)) → IsTrue is_open
 
 pub record IsFoundUnspelled (e : Entry) (codes : CodeSet) (earlier : Earlier) (is_open : Bool) : Type 0 where
   pub nothing : SpellsNothing e.0
@@ -134,7 +134,7 @@ told_mark n codes c = cond (is_reported codes c) ((Some n, c) ∷ []) []
 
 -- the diagnostics on the key at an index
 abbrev pub told_marks : ℕ → CodeSet → List Mark
-told_marks n codes = map (λ c. (Some n, c)) (told_codes codes)
+told_marks n codes = map (λ c. (Some n, c)) (reported_codes codes)
 
 -- the index of a key, if it is left open
 abbrev pub left_open : ℕ → Bool → List ℕ

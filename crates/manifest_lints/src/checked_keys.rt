@@ -29,8 +29,8 @@ use exact_answers::Known;
 use manifest_lints_findings::Code;
 use manifest_lints_findings::known_keys::KnownKey;
 use manifest_lints_findings::readings::{ReadKey, Spelled};
-use manifest_lints_standings::key_predicates::open_names;
 use manifests::Declared;
+use predicate_classes::key_predicates::open_names;
 use std::alloc::{AllocError, Global};
 
 /// The settings that are the same for all keys of a manifest.

@@ -14,6 +14,6 @@ pub use cargo_platform::values_of;
 pub use linting::lint;
 pub use manifest_lints_findings::readings::{ReadKey, Spelled};
 pub use manifest_lints_findings::{
-    Code, Finding, Level, Report, Words, nearest_target, unknown_in,
+    Code, Finding, KnownFacts, Level, Report, nearest_target, unknown_in,
 };
 pub use manifests::document::Document;

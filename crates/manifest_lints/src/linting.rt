@@ -18,7 +18,7 @@ use exact_answers::{Known, ONE_VALUED, family_rule};
 use manifest_lints_findings::findings::target_is_no_table;
 use manifest_lints_findings::making::finding_on;
 use manifest_lints_findings::readings::ReadKey;
-use manifest_lints_findings::{CODES, Code, Finding, Report, Words};
+use manifest_lints_findings::{CODES, Code, Finding, KnownFacts, Report};
 use manifests::document::Document;
 use manifests::{Declared, TargetKey, Targets};
 use std::alloc::{AllocError, Global};
@@ -48,7 +48,7 @@ fn key_at<'a>(read: &'a [ReadKey<'a>], place: usize) -> &'a str
 #[tactic(auto, using(crate::proofs::Reports::one_told, crate::proofs::Reports::none_told))]
 fn add_finding(
     alloc: Global,
-    words: &Words,
+    known_facts: &KnownFacts,
     checked: &CheckedKey<'_>,
     other: &str,
     code: Code,
@@ -60,7 +60,7 @@ fn add_finding(
     if !checked.is_reported(code) {
         return Ok(());
     }
-    let finding = finding_on(alloc, words, &checked.key, other, code)?;
+    let finding = finding_on(alloc, known_facts, &checked.key, other, code)?;
     findings.push(finding)?;
     Ok(())
 }
@@ -68,7 +68,7 @@ fn add_finding(
 /// Appends the diagnostics on a key that are reported, in the order of the lints.
 fn add_findings(
     alloc: Global,
-    words: &Words,
+    known_facts: &KnownFacts,
     checked: &CheckedKey<'_>,
     other: &str,
     findings: &mut Vec<Finding>,
@@ -77,7 +77,7 @@ fn add_findings(
         checked.now.key findings.old.items findings.new.items) }
 {
     'codes: for code in CODES {
-        add_finding(alloc, words, checked, other, code, findings)?;
+        add_finding(alloc, known_facts, checked, other, code, findings)?;
     }
     Ok(())
 }
@@ -115,7 +115,7 @@ fn bytes_with(bytes: usize, text: &str) -> usize
 /// Returns the diagnostics on the parsed keys, and the indexes of the keys about which an answer is not known.
 fn findings_on<'a>(
     alloc: Global,
-    words: &Words,
+    known_facts: &KnownFacts,
     context: &LintContext<'a>,
     read: &'a [ReadKey<'a>],
 ) -> Result<(Vec<Finding>, Vec<usize>), AllocError>
@@ -137,7 +137,7 @@ fn findings_on<'a>(
         let checked = check_key(alloc, &context, place, key, &mut before)?;
         let other = earlier_key(read, checked.answers.earlier);
         note_undecided(&checked, &mut undecided)?;
-        add_findings(alloc, words, &checked, other, &mut findings)?;
+        add_findings(alloc, known_facts, &checked, other, &mut findings)?;
     }
     Ok((findings, undecided))
 }
@@ -147,7 +147,7 @@ fn report_on<'a>(
     alloc: Global,
     manifest: &toml::Table,
     keys: &[TargetKey<'a>],
-    words: &Words,
+    known_facts: &KnownFacts,
 ) -> Result<Report<'a>, AllocError>
     ensures keys { IfOk result (λ r. map entry_read r.keys.items ≡ map entry_of keys.now) }
     ensures read { IfOk result (λ r. All IsRead r.keys.items) }
@@ -169,7 +169,7 @@ fn report_on<'a>(
         is_too_much: false,
     };
     let read = read_keys(alloc, keys)?;
-    let (findings, undecided) = findings_on(alloc, words, &context, &read)?;
+    let (findings, undecided) = findings_on(alloc, known_facts, &context, &read)?;
     Ok(Report {
         keys: read,
         findings,
@@ -196,13 +196,13 @@ fn report_of<'a>(alloc: Global, findings: Vec<Finding>) -> Report<'a>
 pub fn lint<'a>(
     alloc: Global,
     document: &'a Document,
-    words: &Words,
+    known_facts: &KnownFacts,
 ) -> Result<Report<'a>, AllocError>
     ensures { IfOk result
         (λ r. IsReport (table_view document.now.table) (target_of (table_view document.now.table)) r) }
 {
     match document.target_keys(alloc)? {
-        Targets::Keys(keys) => report_on(alloc, &document.table, &keys, words),
+        Targets::Keys(keys) => report_on(alloc, &document.table, &keys, known_facts),
         Targets::Absent => Ok(report_of(alloc, Vec::new(alloc))),
         Targets::NoTable => {
             let mut findings = Vec::new(alloc);

@@ -4,17 +4,17 @@ use Rattle.std.specs.List.{filter}
 use Rattle.cargo_platform.specs.Trees.{CfgValue, Alone, KeyPair, value_of}
 use Rattle.cargo_platform.specs.Print.{print_value}
 use Rattle.cargo_platform.specs.Warnings.{attribute_warning}
-use Rattle.manifest_lints_standings.specs.declared.key_predicates.KeyPredicate.{KeyPredicate}
-use Rattle.manifest_lints_standings.specs.declared.standing.Standing.{Standing}
-use Rattle.manifest_lints_standings.specs.declared.standing.Standing.TheVariants as standing
-use Rattle.manifest_lints_standings.specs.Standings.{is_sort, sort_in}
+use Rattle.predicate_classes.specs.declared.key_predicates.KeyPredicate.{KeyPredicate}
+use Rattle.predicate_classes.specs.declared.classes.Class.{Class}
+use Rattle.predicate_classes.specs.declared.classes.Class.TheVariants as class
+use Rattle.predicate_classes.specs.Classes.{is_category, category_in}
 use Rattle.manifest_lints_findings.specs.Known.{is_marked_literal}
 use Rattle.manifest_lints_findings.specs.Texts.{quoted_text}
 use Rattle.manifest_lints_findings.specs.declared.chosen.Choice.{Choice}
 use Rattle.manifest_lints_findings.specs.declared.chosen.Choice.TheVariants as choice
 
-abbrev pub is_unstable : Standing → Bool
-is_unstable standing.Unstable = true
+abbrev pub is_unstable : Class → Bool
+is_unstable class.Unstable = true
 is_unstable _ = false
 
 abbrev pub is_pair : CfgValue → Bool
@@ -29,10 +29,10 @@ is_feature (KeyPair k v) = bytes_eq k.name (codes "target_feature")
 -- the first of its kind in the key, and of a category, or the name `r#true` or `r#false`; set only by unstable features
 -- of rustc, or not; and a feature of an architecture, or not
 abbrev pub is_chosen : Choice → KeyPredicate → Bool
-is_chosen (choice.OfSort s) f = f.is_first && is_sort (sort_in f.standing) s
+is_chosen (choice.OfCategory s) f = f.is_first && is_category (category_in f.class) s
 is_chosen choice.Literal f = f.is_first && is_marked_literal (value_of f.fact.now)
-is_chosen choice.Unstable f = is_unstable f.standing
-is_chosen choice.Stable f = not (is_unstable f.standing)
+is_chosen choice.Unstable f = is_unstable f.class
+is_chosen choice.Stable f = not (is_unstable f.class)
 is_chosen choice.Feature f = is_feature (value_of f.fact.now)
 is_chosen choice.NoFeature f = not (is_feature (value_of f.fact.now))
 

@@ -81,5 +81,5 @@ abbrev pub is_reported : CodeSet → Code → Bool
 is_reported holds c = holds c && not (list_any holds (hiders c))
 
 -- the lints that are reported on a key, in their order
-abbrev pub told_codes : CodeSet → List Code
-told_codes holds = filter (is_reported holds) CODES
+abbrev pub reported_codes : CodeSet → List Code
+reported_codes holds = filter (is_reported holds) CODES

@@ -5,8 +5,8 @@ use Rattle.std.specs.List.{list_any}
 use Rattle.cargo_platform.specs.Trees.{CfgValue, Alone, KeyPair, condition_of}
 use Rattle.cargo_platform.specs.Print.{print_condition}
 use Rattle.manifests.specs.Declarations.{DeclaredEntry}
-use Rattle.manifest_lints_standings.specs.declared.standing.Sort.TheVariants as sort
-use Rattle.manifest_lints_standings.specs.Standings.{Sorted, sorted_by, sorted_in, has_sort, IsUnknownTarget}
+use Rattle.predicate_classes.specs.declared.classes.Category.TheVariants as category
+use Rattle.predicate_classes.specs.Classes.{Classified, classified_by, classified_in, has_category, IsUnknownTarget}
 use Rattle.manifest_lints_findings.specs.NoTables.{is_no_table, is_empty_list}
 use Rattle.manifest_lints_findings.specs.Codes.{CodeSet}
 use Rattle.manifest_lints_findings.specs.Spells.{entry_read}
@@ -21,7 +21,7 @@ abbrev pub is_marked_literal : CfgValue → Bool
 is_marked_literal (Alone n) = n.raw && (bytes_eq n.name (codes "true") || bytes_eq n.name (codes "false"))
 is_marked_literal (KeyPair k v) = false
 
-abbrev pub has_marked_literal : List Sorted → Bool
+abbrev pub has_marked_literal : List Classified → Bool
 has_marked_literal fs = list_any (λ f. is_marked_literal f.0) fs
 
 abbrev pub is_refused : Spelled → Bool
@@ -40,10 +40,10 @@ is_condition (spelled.ByCargo m) = false
 is_condition (spelled.Refused e) = false
 
 -- the names and pairs in a key, its canonical form, and whether it is the name of a target that is not known
-abbrev pub sorted_of_spelled : List DeclaredEntry → Spelled → List Sorted
-sorted_of_spelled ds (spelled.Condition p) = sorted_in ds (condition_of p)
-sorted_of_spelled ds (spelled.ByCargo m) = []
-sorted_of_spelled ds (spelled.Refused e) = []
+abbrev pub classified_of_spelled : List DeclaredEntry → Spelled → List Classified
+classified_of_spelled ds (spelled.Condition p) = classified_in ds (condition_of p)
+classified_of_spelled ds (spelled.ByCargo m) = []
+classified_of_spelled ds (spelled.Refused e) = []
 
 abbrev pub print_spelled : Spelled → List ℕ
 print_spelled (spelled.Condition p) = print_condition (condition_of p)
@@ -58,7 +58,7 @@ IsUnknownSpelled (spelled.Refused e) = ⊥
 pub record IsKnown (ds : List DeclaredEntry) (r : ReadKey) (k : KnownKey) : Type 0 where
   pub read : k.read.now ≡ r
   pub tables : is_empty_list k.no_tables.items ≡ not (is_no_table (entry_read r).1)
-  pub predicates : sorted_by k.predicates.items ≡ sorted_of_spelled ds r.spelled
+  pub predicates : classified_by k.predicates.items ≡ classified_of_spelled ds r.spelled
   pub canonical : string_bytes k.canonical ≡ print_spelled r.spelled
   pub unknown_target : IsTrue k.is_unknown_target ↔ IsUnknownSpelled r.spelled
 
@@ -66,11 +66,11 @@ pub record IsKnown (ds : List DeclaredEntry) (r : ReadKey) (k : KnownKey) : Type
 abbrev pub holds_alone : KnownKey → CodeSet
 holds_alone k code.Refused = is_refused k.read.now.spelled
 holds_alone k code.NoTable = not (is_empty_list k.no_tables.items)
-holds_alone k code.ReadOtherwise = is_by_cargo k.read.now.spelled || has_marked_literal (sorted_by k.predicates.items)
-holds_alone k code.Unsupported = has_sort sort.Unsupported (sorted_by k.predicates.items)
+holds_alone k code.ReadOtherwise = is_by_cargo k.read.now.spelled || has_marked_literal (classified_by k.predicates.items)
+holds_alone k code.Unsupported = has_category category.Unsupported (classified_by k.predicates.items)
 holds_alone k code.UnknownTarget = k.is_unknown_target
-holds_alone k code.UnknownFact = has_sort sort.Mistaken (sorted_by k.predicates.items)
-holds_alone k code.Custom = has_sort sort.Custom (sorted_by k.predicates.items)
+holds_alone k code.UnknownFact = has_category category.Mistaken (classified_by k.predicates.items)
+holds_alone k code.Custom = has_category category.Custom (classified_by k.predicates.items)
 holds_alone k code.NotCanonical =
     is_condition k.read.now.spelled && not (bytes_eq (string_bytes k.canonical) k.read.now.text.now)
 holds_alone k _ = false

@@ -3,7 +3,7 @@ use Rattle.std.specs.Prelude.{◌≡◌, List, [], ◌∷◌}
 use Rattle.manifest_lints_findings.specs.declared.codes.Code.{Code}
 use Rattle.manifest_lints_findings.specs.declared.codes.Code.TheVariants as code
 use Rattle.manifest_lints_findings.specs.declared.codes.TheConstants.{CODES}
-use Rattle.manifest_lints_findings.specs.declared.wording.TheConstants.{TOLD}
+use Rattle.manifest_lints_findings.specs.declared.wording.TheConstants.{MOST_SHOWN}
 
 -- all lints, each once, in the order in which they are reported for one key
 abbrev pub all_codes : List Code
@@ -16,5 +16,5 @@ abbrev pub AreAllCodes : Type 0
 AreAllCodes = CODES ≡ all_codes
 
 -- the number of items of a list that are printed
-abbrev pub AreTold : Type 0
-AreTold = TOLD ≡ 3
+abbrev pub IsMostShown : Type 0
+IsMostShown = MOST_SHOWN ≡ 3

@@ -10,8 +10,8 @@ use Rattle.cargo_platform.specs.Errors.{fault_in}
 use Rattle.cargo_platform.specs.declared.error.ParseError.{ParseError}
 use Rattle.cargo_platform.specs.Print.{print_fault}
 use Rattle.known_targets.specs.declared.table.TheConstants.{RUSTC_VERSION}
-use Rattle.manifest_lints_standings.specs.declared.key_predicates.KeyPredicate.{KeyPredicate}
-use Rattle.manifest_lints_standings.specs.declared.standing.Sort.TheVariants as sort
+use Rattle.predicate_classes.specs.declared.key_predicates.KeyPredicate.{KeyPredicate}
+use Rattle.predicate_classes.specs.declared.classes.Category.TheVariants as category
 use Rattle.manifest_lints_findings.specs.Chosen.{chosen, fact_text, warnings_on}
 use Rattle.manifest_lints_findings.specs.Texts.{shown_whole, shown_cut, quoted_text, Mentions, and_more}
 use Rattle.manifest_lints_findings.specs.Texts.{joined_first, both_texts}
@@ -22,7 +22,7 @@ use Rattle.manifest_lints_findings.specs.declared.known_keys.KnownKey.{KnownKey}
 use Rattle.manifest_lints_findings.specs.declared.readings.Marked.{Marked}
 use Rattle.manifest_lints_findings.specs.declared.readings.Spelled.{Spelled}
 use Rattle.manifest_lints_findings.specs.declared.readings.Spelled.TheVariants as spelled
-use Rattle.manifest_lints_findings.specs.declared.wording.TheConstants.{TOLD}
+use Rattle.manifest_lints_findings.specs.declared.wording.TheConstants.{MOST_SHOWN}
 
 -- ---- parts of messages
 
@@ -79,7 +79,7 @@ fault_text key (spelled.ByCargo m) = []
 
 -- Cargo's first warnings on the key, and the number of the others
 abbrev pub cargo_words : Marked → List ℕ
-cargo_words m = shown_whole (join_by (λ s. string_bytes s) (codes " ") (take TOLD m.warnings.items) ++ and_more m.count)
+cargo_words m = shown_whole (join_by (λ s. string_bytes s) (codes " ") (take MOST_SHOWN m.warnings.items) ++ and_more m.count)
 
 -- the names that lose their raw mark, unless only Cargo accepts the key
 abbrev pub unmarked_text : List KeyPredicate → List ℕ
@@ -122,17 +122,17 @@ Shows code.ReadOtherwise k message = message ≡ read_otherwise k.read.now.spell
 Shows code.Unsupported k message =
     message
     ≡ codes "Cargo does not set "
-    ++ (listing (chosen (choice.OfSort sort.Unsupported) k.predicates.items) ++ codes " when it selects dependencies")
+    ++ (listing (chosen (choice.OfCategory category.Unsupported) k.predicates.items) ++ codes " when it selects dependencies")
 Shows code.Never k message = message ≡ codes "no set of facts makes the condition true"
 Shows code.UnknownTarget k message = message ≡ no_target ++ codes " has this name"
 Shows code.UnknownFact k message =
-    message ≡ mistakes_text (chosen (choice.OfSort sort.Mistaken) k.predicates.items)
+    message ≡ mistakes_text (chosen (choice.OfCategory category.Mistaken) k.predicates.items)
 Shows code.Nowhere k message = message ≡ no_target ++ codes " has facts that make the condition true"
 Shows code.Same k message = Unit {0}
 Shows code.Equivalent k message = Unit {0}
 Shows code.Always k message = message ≡ codes "every set of facts makes the condition true"
 Shows code.Everywhere k message = message ≡ every_target
-Shows code.Custom k message = message ≡ custom_text (chosen (choice.OfSort sort.Custom) k.predicates.items)
+Shows code.Custom k message = message ≡ custom_text (chosen (choice.OfCategory category.Custom) k.predicates.items)
 Shows code.NotCanonical k message = message ≡ codes "the key is not in canonical form"
 
 -- ---- the notes and helps beside the message, each one after the other
@@ -143,7 +143,7 @@ said ts = flat_map (λ t. string_bytes t) ts
 -- the texts in the notes: Cargo's warnings
 abbrev pub noted_texts : Code → KnownKey → List (List ℕ)
 noted_texts code.ReadOtherwise k = cargo_noted k.read.now.spelled
-noted_texts code.Unsupported k = unsupported_in (chosen (choice.OfSort sort.Unsupported) k.predicates.items) ∷ []
+noted_texts code.Unsupported k = unsupported_in (chosen (choice.OfCategory category.Unsupported) k.predicates.items) ∷ []
 noted_texts _ k = []
 
 -- the texts in the helps: the canonical form of a key that is not in it, and else what can replace the key

@@ -5,8 +5,8 @@ use Rattle.std.specs.Option.{option_to_list}
 use Rattle.std.specs.declared.alloc.Global.{Global}
 use Rattle.toml.specs.Data.{Data}
 use Rattle.toml_spans.specs.declared.spans.Span.{Span}
-use Rattle.manifest_lints_standings.specs.declared.key_predicates.KeyPredicate.{KeyPredicate}
-use Rattle.manifest_lints_standings.specs.declared.standing.Sort.TheVariants as sort
+use Rattle.predicate_classes.specs.declared.key_predicates.KeyPredicate.{KeyPredicate}
+use Rattle.predicate_classes.specs.declared.classes.Category.TheVariants as category
 use Rattle.manifest_lints_findings.specs.Chosen.{chosen}
 use Rattle.manifest_lints_findings.specs.Messages.{NamesKey}
 use Rattle.manifest_lints_findings.specs.NoTables.{no_table_names}
@@ -19,13 +19,13 @@ use Rattle.manifest_lints_findings.specs.declared.codes.Level.TheVariants as lev
 use Rattle.manifest_lints_findings.specs.declared.findings.Finding.{Finding}
 use Rattle.manifest_lints_findings.specs.declared.known_keys.KnownKey.{KnownKey}
 use Rattle.manifest_lints_findings.specs.declared.pointing.Pointed.{Pointed}
-use Rattle.manifest_lints_findings.specs.declared.wording.TheConstants.{TOLD}
+use Rattle.manifest_lints_findings.specs.declared.wording.TheConstants.{MOST_SHOWN}
 
 -- the names and pairs that a diagnostic of this lint is about
 abbrev pub choice_of : Code → Option Choice
-choice_of code.UnknownFact = Some (choice.OfSort sort.Mistaken)
-choice_of code.Unsupported = Some (choice.OfSort sort.Unsupported)
-choice_of code.Custom = Some (choice.OfSort sort.Custom)
+choice_of code.UnknownFact = Some (choice.OfCategory category.Mistaken)
+choice_of code.Unsupported = Some (choice.OfCategory category.Unsupported)
+choice_of code.Custom = Some (choice.OfCategory category.Custom)
 choice_of code.ReadOtherwise = Some choice.Literal
 choice_of _ = None
 
@@ -36,7 +36,7 @@ spans_in fs = flat_map (λ f. option_to_list f.span) fs
 -- the first of these spans
 abbrev pub spans_of : Option Choice → List KeyPredicate → List Span
 spans_of None fs = []
-spans_of (Some c) fs = take TOLD (spans_in (chosen c fs))
+spans_of (Some c) fs = take MOST_SHOWN (spans_in (chosen c fs))
 
 -- the names of the fields that a diagnostic of this lint is about
 abbrev pub fields_of : Code → Data → List (List ℕ)

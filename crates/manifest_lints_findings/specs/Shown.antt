@@ -6,8 +6,8 @@ use Rattle.cargo_platform.specs.Errors.{orig_of, fault_in, span_in}
 use Rattle.cargo_platform.specs.KeySpans.{IsSpanInKey, IsSnippetOfKey}
 use Rattle.cargo_platform.specs.Platforms.{IsConditionText}
 use Rattle.cargo_platform.specs.Print.{print_condition}
-use Rattle.manifest_lints_standings.specs.declared.standing.Sort.TheVariants as sort
-use Rattle.manifest_lints_standings.specs.Standings.{has_sort, sorted_in, IsUnknownTarget}
+use Rattle.predicate_classes.specs.declared.classes.Category.TheVariants as category
+use Rattle.predicate_classes.specs.Classes.{has_category, classified_in, IsUnknownTarget}
 use Rattle.manifest_lints_findings.specs.Known.{has_marked_literal}
 use Rattle.manifest_lints_findings.specs.declared.codes.Code.{Code}
 use Rattle.manifest_lints_findings.specs.declared.codes.Code.TheVariants as code
@@ -32,8 +32,8 @@ IsShownOn c k f = (f.span ≡ None) × (f.snippet ≡ None)
 abbrev pub IsRidOf : Code → List ℕ → Condition → Type 0
 IsRidOf code.Refused text c = Unit {0}
 IsRidOf code.UnknownTarget text c = IsUnknownTarget c → ⊥
-IsRidOf code.UnknownFact text c = has_sort sort.Mistaken (sorted_in [] c) ≡ false
-IsRidOf code.ReadOtherwise text c = has_marked_literal (sorted_in [] c) ≡ false
+IsRidOf code.UnknownFact text c = has_category category.Mistaken (classified_in [] c) ≡ false
+IsRidOf code.ReadOtherwise text c = has_marked_literal (classified_in [] c) ≡ false
 IsRidOf code.NotCanonical text c = IsTrue (bytes_eq (print_condition c) text)
 IsRidOf _ text c = ⊥
 

@@ -1,8 +1,8 @@
 -- The diagnostics on a key outside of a manifest that need no search over sets of facts.
 use Rattle.std.specs.Prelude.{◌≡◌, ◌↔◌, ℕ, Bool, IsTrue, List, [], ◌∷◌, ◌++◌, cond, Some}
 use Rattle.cargo_platform.specs.Trees.{Condition}
-use Rattle.manifest_lints_standings.specs.declared.standing.Sort.TheVariants as sort
-use Rattle.manifest_lints_standings.specs.Standings.{has_sort, sorted_in, IsUnknownTarget}
+use Rattle.predicate_classes.specs.declared.classes.Category.TheVariants as category
+use Rattle.predicate_classes.specs.Classes.{has_category, classified_in, IsUnknownTarget}
 use Rattle.manifest_lints_findings.specs.Marks.{Mark}
 use Rattle.manifest_lints_findings.specs.declared.codes.Code.{Code}
 use Rattle.manifest_lints_findings.specs.declared.codes.Code.TheVariants as code
@@ -17,5 +17,5 @@ pub record AreUnknown (c : Condition) (ms : List Mark) : Type 0 where
   pub exactly : IsTrue is_unknown ↔ IsUnknownTarget c
   pub marks : ms
       ≡ mark_where 0 is_unknown code.UnknownTarget
-      ++ (mark_where 0 (has_sort sort.Mistaken (sorted_in [] c)) code.UnknownFact
-      ++ mark_where 0 (has_sort sort.Custom (sorted_in [] c)) code.Custom)
+      ++ (mark_where 0 (has_category category.Mistaken (classified_in [] c)) code.UnknownFact
+      ++ mark_where 0 (has_category category.Custom (classified_in [] c)) code.Custom)

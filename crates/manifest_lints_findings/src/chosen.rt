@@ -6,15 +6,15 @@ ghost use Rattle.manifest_lints_findings.specs.Chosen.{is_unstable, is_feature, 
 ghost use Rattle.manifest_lints_findings.specs.Known.{is_marked_literal};
 
 use cargo_platform::Cfg;
-use manifest_lints_standings::key_predicates::KeyPredicate;
-use manifest_lints_standings::standing::{Sort, Standing};
+use predicate_classes::classes::{Category, Class};
+use predicate_classes::key_predicates::KeyPredicate;
 use std::alloc::{AllocError, Global};
 
 /// A selection of names and pairs.
 #[derive(Clone, Copy, Drop)]
 pub enum Choice {
     /// Those of a category, each once.
-    OfSort(Sort),
+    OfCategory(Category),
     /// The names `r#true` and `r#false`, each once.
     Literal,
     /// Those that only unstable features of rustc set.
@@ -28,10 +28,10 @@ pub enum Choice {
 }
 
 /// Returns whether only unstable features of rustc set the name or pair.
-fn is_unstable(standing: Standing) -> bool
-    ensures { result ≡ is_unstable standing }
+fn is_unstable(class: Class) -> bool
+    ensures { result ≡ is_unstable class }
 {
-    matches!(standing, Standing::Unstable)
+    matches!(class, Class::Unstable)
 }
 
 /// Returns whether a fact is a pair of `target_feature`.
@@ -59,10 +59,11 @@ fn is_chosen(choice: Choice, predicate: &KeyPredicate<'_>) -> bool
     ensures { result ≡ is_chosen choice predicate.now }
 {
     match choice {
-        Choice::OfSort(sort) => predicate.is_first && predicate.standing.sort().is(sort),
+        Choice::OfCategory(category) => predicate.is_first
+            && predicate.class.category().is(category),
         Choice::Literal => predicate.is_first && is_marked_literal(predicate.fact),
-        Choice::Unstable => is_unstable(predicate.standing),
-        Choice::Stable => !is_unstable(predicate.standing),
+        Choice::Unstable => is_unstable(predicate.class),
+        Choice::Stable => !is_unstable(predicate.class),
         Choice::Feature => is_feature(predicate.fact),
         Choice::NoFeature => !is_feature(predicate.fact),
     }

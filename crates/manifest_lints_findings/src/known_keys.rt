@@ -4,7 +4,7 @@ ghost use Rattle.std.specs.Prelude.{◌≡◌, [], IfOk, not, string_bytes};
 ghost use Rattle.cargo_platform.specs.Trees.{value_of, condition_of};
 ghost use Rattle.cargo_platform.specs.Print.{print_condition};
 ghost use Rattle.manifests.specs.Declarations.{declarations_of};
-ghost use Rattle.manifest_lints_standings.specs.Standings.{sorted_by};
+ghost use Rattle.predicate_classes.specs.Classes.{classified_by};
 ghost use Rattle.manifest_lints_findings.specs.NoTables.{is_empty_list, is_no_table};
 ghost use Rattle.manifest_lints_findings.specs.Spells.{entry_read};
 ghost use Rattle.manifest_lints_findings.specs.Known.{IsKnown, holds_alone, has_marked_literal};
@@ -14,10 +14,10 @@ use crate::codes::Code;
 use crate::no_tables::no_tables;
 use crate::readings::{ReadKey, Spelled};
 use cargo_platform::{Platform, values_with_levels};
-use manifest_lints_standings::key_predicates::{KeyPredicate, has_sort, key_predicates};
-use manifest_lints_standings::key_spans::spans_of;
-use manifest_lints_standings::standing::{Sort, is_unknown_target};
 use manifests::Declared;
+use predicate_classes::classes::{Category, is_unknown_target};
+use predicate_classes::key_predicates::{KeyPredicate, has_category, key_predicates};
+use predicate_classes::key_spans::spans_of;
 use std::alloc::{AllocError, Global};
 
 /// The properties of a key. A key that is not a condition contains no names and pairs.
@@ -87,10 +87,10 @@ impl<'a> KnownKey<'a> {
                 matches!(self.read.spelled, Spelled::ByCargo(_))
                     || has_marked_literal(&self.predicates)
             }
-            Code::Unsupported => has_sort(&self.predicates, Sort::Unsupported),
+            Code::Unsupported => has_category(&self.predicates, Category::Unsupported),
             Code::UnknownTarget => self.is_unknown_target,
-            Code::UnknownFact => has_sort(&self.predicates, Sort::Mistaken),
-            Code::Custom => has_sort(&self.predicates, Sort::Custom),
+            Code::UnknownFact => has_category(&self.predicates, Category::Mistaken),
+            Code::Custom => has_category(&self.predicates, Category::Custom),
             Code::NotCanonical => {
                 matches!(self.read.spelled, Spelled::Condition(_))
                     && self.canonical.as_str() != self.read.text
@@ -146,7 +146,7 @@ fn canonical(alloc: Global, condition: &Platform) -> Result<String, AllocError>
 
 /// Returns whether one of the facts is the name `r#true` or `r#false`, which Cargo reads as a literal.
 fn has_marked_literal(predicates: &[KeyPredicate<'_>]) -> bool
-    ensures { result ≡ has_marked_literal (sorted_by predicates.now) }
+    ensures { result ≡ has_marked_literal (classified_by predicates.now) }
 {
     'predicates: for each in predicates {
         if is_marked_literal(each.fact) {

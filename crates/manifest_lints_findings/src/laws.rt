@@ -1,6 +1,6 @@
 //! Laws about the definitions. The functions do nothing: their contracts are the laws.
 
-ghost use Rattle.manifest_lints_findings.specs.Laws.{AreAllCodes, AreTold};
+ghost use Rattle.manifest_lints_findings.specs.Laws.{AreAllCodes, IsMostShown};
 
 /// `CODES` contains all lints, each once, in the order in which they are reported.
 pub fn codes()
@@ -8,6 +8,6 @@ pub fn codes()
 {}
 
 /// At most three items of a list are printed.
-pub fn told()
-    ensures { AreTold }
+pub fn most_shown()
+    ensures { IsMostShown }
 {}

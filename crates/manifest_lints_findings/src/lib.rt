@@ -28,5 +28,5 @@ pub use meant::{near, nearest_target};
 pub use notes_and_helps::Children;
 pub use places::{Site, WrongPlace, add_at_top, shown_table, wrong_places};
 pub use pointing::Pointed;
-pub use suggestions::Words;
+pub use suggestions::KnownFacts;
 pub use unknown::unknown_in;

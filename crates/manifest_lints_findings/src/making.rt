@@ -15,7 +15,7 @@ use crate::messages::message_of;
 use crate::notes_and_helps::children_of;
 use crate::pointing::pointed_by;
 use crate::readings::Spelled;
-use crate::suggestions::{Words, suggestion_of};
+use crate::suggestions::{KnownFacts, suggestion_of};
 use std::alloc::{AllocError, Global};
 
 /// Returns the level of a diagnostic of this lint on a condition with `count` names and pairs.
@@ -45,7 +45,7 @@ fn level_of(code: Code, count: usize) -> Level
 /// memory is refused.
 pub fn finding_on(
     alloc: Global,
-    words: &Words,
+    known_facts: &KnownFacts,
     key: &KnownKey<'_>,
     other: &str,
     code: Code,
@@ -61,9 +61,9 @@ pub fn finding_on(
     ensures shown { IfOk result (λ f. IsShownOn code key.now f) }
     ensures suggestion { IfOk result (λ f. IfSome f.suggestion (λ s. IsMended code (string_bytes s))) }
 {
-    let suggestion = suggestion_of(alloc, words, key, code)?;
+    let suggestion = suggestion_of(alloc, known_facts, key, code)?;
     let message = message_of(alloc, key, other, code)?;
-    let children = children_of(alloc, words, key, &suggestion, code)?;
+    let children = children_of(alloc, known_facts, key, &suggestion, code)?;
     let finding = Finding {
         level: level_of(code, key.predicates.len()),
         code,

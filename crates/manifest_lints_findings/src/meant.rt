@@ -1,7 +1,7 @@
 //! The values and target names of rustc that people mean by other words, found by fixed rules, or one edit away.
 
 use known_targets::{KnownTarget, names};
-use manifest_lints_standings::standing::is_value_of;
+use predicate_classes::classes::is_value_of;
 use std::alloc::{AllocError, Global};
 
 /// The length of the shortest text, in bytes, that is similar to a word.

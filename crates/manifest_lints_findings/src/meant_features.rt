@@ -1,7 +1,7 @@
 //! The features that people mean by values of `target_feature` that rustc has for no architecture.
 
 use crate::meant::{is_one_edit, is_same_but_marks};
-use manifest_lints_standings::rustc_names::target_features;
+use predicate_classes::rustc_names::target_features;
 use std::alloc::{AllocError, Global};
 
 /// Returns the feature that is one edit away, if there is only one.

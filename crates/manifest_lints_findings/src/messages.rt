@@ -13,8 +13,8 @@ use crate::readings::Spelled;
 use crate::wording::{both, joined, listed, quoted};
 use cargo_platform::{ParseError, shown_start};
 use known_targets::RUSTC_VERSION;
-use manifest_lints_standings::key_predicates::KeyPredicate;
-use manifest_lints_standings::standing::Sort;
+use predicate_classes::classes::Category;
+use predicate_classes::key_predicates::KeyPredicate;
 use std::alloc::{AllocError, Global};
 
 /// Returns the message of the diagnostic of this lint. `other` is the earlier key that is the same or equivalent. Fails
@@ -129,7 +129,11 @@ fn read_otherwise_message(alloc: Global, key: &KnownKey<'_>) -> Result<String, A
 fn unsupported_message(alloc: Global, key: &KnownKey<'_>) -> Result<String, AllocError>
     ensures { IfOk result (λ s. Shows Code.Unsupported key.now (string_bytes s)) }
 {
-    let facts = chosen(alloc, &key.predicates, Choice::OfSort(Sort::Unsupported))?;
+    let facts = chosen(
+        alloc,
+        &key.predicates,
+        Choice::OfCategory(Category::Unsupported),
+    )?;
     let names = listed(alloc, &facts)?;
     format!(in alloc; "Cargo does not set {names} when it selects dependencies")
 }
@@ -143,7 +147,7 @@ fn unknown_target_message(alloc: Global) -> Result<String, AllocError>
 }
 
 /// Returns the message for facts that no known target has, or the empty text if there are none.
-fn lacking_told(alloc: Global, facts: &[KeyPredicate<'_>]) -> Result<String, AllocError>
+fn lacking_message(alloc: Global, facts: &[KeyPredicate<'_>]) -> Result<String, AllocError>
     ensures { IfOk result (λ s. string_bytes s ≡ lacking_text facts.now) }
 {
     if facts.is_empty() {
@@ -155,7 +159,7 @@ fn lacking_told(alloc: Global, facts: &[KeyPredicate<'_>]) -> Result<String, All
 }
 
 /// Returns the message for mistaken features, or the empty text if there are none.
-fn features_told(alloc: Global, features: &[KeyPredicate<'_>]) -> Result<String, AllocError>
+fn features_message(alloc: Global, features: &[KeyPredicate<'_>]) -> Result<String, AllocError>
     ensures { IfOk result (λ s. string_bytes s ≡ features_text features.now) }
 {
     if features.is_empty() {
@@ -169,11 +173,15 @@ fn features_told(alloc: Global, features: &[KeyPredicate<'_>]) -> Result<String,
 fn unknown_fact_message(alloc: Global, key: &KnownKey<'_>) -> Result<String, AllocError>
     ensures { IfOk result (λ s. Shows Code.UnknownFact key.now (string_bytes s)) }
 {
-    let mistakes = chosen(alloc, &key.predicates, Choice::OfSort(Sort::Mistaken))?;
+    let mistakes = chosen(
+        alloc,
+        &key.predicates,
+        Choice::OfCategory(Category::Mistaken),
+    )?;
     let facts = chosen(alloc, &mistakes, Choice::NoFeature)?;
     let features = chosen(alloc, &mistakes, Choice::Feature)?;
-    let first = lacking_told(alloc, &facts)?;
-    let second = features_told(alloc, &features)?;
+    let first = lacking_message(alloc, &facts)?;
+    let second = features_message(alloc, &features)?;
     both(alloc, first, second)
 }
 
@@ -202,7 +210,7 @@ fn only_unstable(alloc: Global, facts: &[KeyPredicate<'_>]) -> Result<String, Al
 }
 
 /// Returns the message for facts that only unstable features set, or the empty text if there are none.
-fn unstable_told(alloc: Global, facts: &[KeyPredicate<'_>]) -> Result<String, AllocError>
+fn unstable_message(alloc: Global, facts: &[KeyPredicate<'_>]) -> Result<String, AllocError>
     ensures { IfOk result (λ s. string_bytes s ≡ unstable_text facts.now) }
 {
     if facts.is_empty() {
@@ -216,10 +224,10 @@ fn unstable_told(alloc: Global, facts: &[KeyPredicate<'_>]) -> Result<String, Al
 fn custom_message(alloc: Global, key: &KnownKey<'_>) -> Result<String, AllocError>
     ensures { IfOk result (λ s. Shows Code.Custom key.now (string_bytes s)) }
 {
-    let custom = chosen(alloc, &key.predicates, Choice::OfSort(Sort::Custom))?;
+    let custom = chosen(alloc, &key.predicates, Choice::OfCategory(Category::Custom))?;
     let flagged = chosen(alloc, &custom, Choice::Stable)?;
     let unstable = chosen(alloc, &custom, Choice::Unstable)?;
-    let first = lacking_told(alloc, &flagged)?;
-    let second = unstable_told(alloc, &unstable)?;
+    let first = lacking_message(alloc, &flagged)?;
+    let second = unstable_message(alloc, &unstable)?;
     both(alloc, first, second)
 }

@@ -14,11 +14,11 @@ use crate::codes::Code;
 use crate::known_keys::KnownKey;
 use crate::no_tables::meant_tables;
 use crate::readings::{Marked, Spelled};
-use crate::suggestions::{Words, instead_of};
-use crate::wording::{joined, quoted, quoted_fact, told};
+use crate::suggestions::{KnownFacts, instead_of};
+use crate::wording::{first_shown, joined, quoted, quoted_fact};
 use cargo_platform::{Cfg, CfgExpr, Platform, shown_text};
-use manifest_lints_standings::key_predicates::KeyPredicate;
-use manifest_lints_standings::standing::{Sort, Standing};
+use predicate_classes::classes::{Category, Class};
+use predicate_classes::key_predicates::KeyPredicate;
 use std::alloc::{AllocError, Global};
 
 /// The texts that belong to a diagnostic. Each has one line, and no hidden characters.
@@ -84,7 +84,7 @@ fn only_words(alloc: Global, text: &str) -> Result<Vec<String>, AllocError> {
 /// Returns the notes and helps of the diagnostic of this lint. `meant` can replace the key. Fails if memory is refused.
 pub fn children_of(
     alloc: Global,
-    words: &Words,
+    known_facts: &KnownFacts,
     key: &KnownKey<'_>,
     meant: &Option<String>,
     code: Code,
@@ -93,7 +93,7 @@ pub fn children_of(
     ensures helps { IfOk result (λ c. Mentions (help_texts code key.now meant.now) (said c.helps.items)) }
 {
     let notes = notes_of(alloc, key, code)?;
-    let helps = helps_of(alloc, words, key, meant, code)?;
+    let helps = helps_of(alloc, known_facts, key, meant, code)?;
     Ok(Children { notes, helps })
 }
 
@@ -185,9 +185,13 @@ fn warnings_on(alloc: Global, facts: &[KeyPredicate<'_>]) -> Result<Vec<String>,
 /// Returns the note on facts that do not select dependencies: Cargo's warnings, on one line.
 fn unsupported_note(alloc: Global, key: &KnownKey<'_>) -> Result<String, AllocError>
     ensures { IfOk result (λ s. Mentions
-        (unsupported_in (chosen (Choice.OfSort Sort.Unsupported) key.now.predicates.items) ∷ []) (string_bytes s)) }
+        (unsupported_in (chosen (Choice.OfCategory Category.Unsupported) key.now.predicates.items) ∷ []) (string_bytes s)) }
 {
-    let facts = chosen(alloc, &key.predicates, Choice::OfSort(Sort::Unsupported))?;
+    let facts = chosen(
+        alloc,
+        &key.predicates,
+        Choice::OfCategory(Category::Unsupported),
+    )?;
     let warnings = warnings_on(alloc, &facts)?;
     let words = joined(alloc, &warnings, warnings.len(), " ")?;
     let text = shown_text(alloc, words.as_str())?;
@@ -197,7 +201,7 @@ fn unsupported_note(alloc: Global, key: &KnownKey<'_>) -> Result<String, AllocEr
 /// Returns the notes on facts that do not select dependencies.
 fn notes_on_unsupported(alloc: Global, key: &KnownKey<'_>) -> Result<Vec<String>, AllocError>
     ensures { IfOk result (λ notes. Mentions
-        (unsupported_in (chosen (Choice.OfSort Sort.Unsupported) key.now.predicates.items) ∷ []) (said notes.items)) }
+        (unsupported_in (chosen (Choice.OfCategory Category.Unsupported) key.now.predicates.items) ∷ []) (said notes.items)) }
 {
     let note = unsupported_note(alloc, key)?;
     only(alloc, note)
@@ -216,9 +220,9 @@ fn notes_on_mistakes(
     alloc: Global,
     predicates: &[KeyPredicate<'_>],
 ) -> Result<Vec<String>, AllocError> {
-    let mistakes = chosen(alloc, predicates, Choice::OfSort(Sort::Mistaken))?;
+    let mistakes = chosen(alloc, predicates, Choice::OfCategory(Category::Mistaken))?;
     let mut notes = Vec::new(alloc);
-    if mistakes.iter().any(|it| it.standing == Standing::OfProfile) {
+    if mistakes.iter().any(|it| it.class == Class::OfProfile) {
         notes.push(String::from_str(alloc, OF_PROFILES)?)?;
     }
     if mistakes.iter().any(|it| is_panic(it.fact)) {
@@ -232,7 +236,7 @@ fn notes_on_mistakes(
 
 /// Returns the notes on facts that only flags or unstable features set.
 fn notes_on_custom(alloc: Global, key: &KnownKey<'_>) -> Result<Vec<String>, AllocError> {
-    let custom = chosen(alloc, &key.predicates, Choice::OfSort(Sort::Custom))?;
+    let custom = chosen(alloc, &key.predicates, Choice::OfCategory(Category::Custom))?;
     if chosen(alloc, &custom, Choice::Stable)?.is_empty() {
         return Ok(Vec::new(alloc));
     }
@@ -242,7 +246,7 @@ fn notes_on_custom(alloc: Global, key: &KnownKey<'_>) -> Result<Vec<String>, All
 /// Returns the helps of the diagnostic of this lint.
 fn helps_of(
     alloc: Global,
-    words: &Words,
+    known_facts: &KnownFacts,
     key: &KnownKey<'_>,
     meant: &Option<String>,
     code: Code,
@@ -251,7 +255,7 @@ fn helps_of(
 {
     match code {
         Code::NotCanonical => to_write(alloc, key.canonical.as_str()),
-        _ => helps_with(alloc, words, key, meant, code),
+        _ => helps_with(alloc, known_facts, key, meant, code),
     }
 }
 
@@ -276,7 +280,7 @@ fn to_mean(alloc: Global, text: &str) -> Result<Vec<String>, AllocError>
 /// Returns the help to use what is meant, or else what is known of parts of the key.
 fn helps_with(
     alloc: Global,
-    words: &Words,
+    known_facts: &KnownFacts,
     key: &KnownKey<'_>,
     meant: &Option<String>,
     code: Code,
@@ -285,7 +289,7 @@ fn helps_with(
 {
     match meant {
         Some(text) => to_use(alloc, text.as_str(), code),
-        None => hints(alloc, words, key, code),
+        None => hints(alloc, known_facts, key, code),
     }
 }
 
@@ -302,7 +306,7 @@ fn to_use(alloc: Global, text: &str, code: Code) -> Result<Vec<String>, AllocErr
 /// Returns helps for a key that has no suggestion.
 fn hints(
     alloc: Global,
-    words: &Words,
+    known_facts: &KnownFacts,
     key: &KnownKey<'_>,
     code: Code,
 ) -> Result<Vec<String>, AllocError> {
@@ -315,7 +319,7 @@ fn hints(
             Some(value) => meant_tables(alloc, value),
             None => Ok(Vec::new(alloc)),
         },
-        Code::UnknownFact => hints_on_mistakes(alloc, words, &key.predicates),
+        Code::UnknownFact => hints_on_mistakes(alloc, known_facts, &key.predicates),
         _ => Ok(Vec::new(alloc)),
     }
 }
@@ -323,13 +327,13 @@ fn hints(
 /// Returns for the first mistaken facts what may be meant, where that is known.
 fn hints_on_mistakes(
     alloc: Global,
-    words: &Words,
+    known_facts: &KnownFacts,
     predicates: &[KeyPredicate<'_>],
 ) -> Result<Vec<String>, AllocError> {
-    let mistakes = chosen(alloc, predicates, Choice::OfSort(Sort::Mistaken))?;
+    let mistakes = chosen(alloc, predicates, Choice::OfCategory(Category::Mistaken))?;
     let mut helps = Vec::new(alloc);
-    for mistake in told(&mistakes) {
-        if let Some(other) = instead_of(alloc, words, mistake)? {
+    for mistake in first_shown(&mistakes) {
+        if let Some(other) = instead_of(alloc, known_facts, mistake)? {
             let fact = quoted_fact(alloc, mistake.fact)?;
             let other = quoted(alloc, other.as_str())?;
             helps.push(format!(in alloc; "did you mean {other} in place of {fact}?")?)?;

@@ -9,9 +9,9 @@ use crate::chosen::{Choice, chosen};
 use crate::codes::Code;
 use crate::known_keys::KnownKey;
 use crate::no_tables::no_table_fields;
-use crate::wording::TOLD;
-use manifest_lints_standings::key_predicates::KeyPredicate;
-use manifest_lints_standings::standing::Sort;
+use crate::wording::MOST_SHOWN;
+use predicate_classes::classes::Category;
+use predicate_classes::key_predicates::KeyPredicate;
 use std::alloc::{AllocError, Global};
 use toml_spans::Span;
 
@@ -44,9 +44,9 @@ fn choice_of(code: Code) -> Option<Choice>
     ensures { result ≡ choice_of code }
 {
     match code {
-        Code::UnknownFact => Some(Choice::OfSort(Sort::Mistaken)),
-        Code::Unsupported => Some(Choice::OfSort(Sort::Unsupported)),
-        Code::Custom => Some(Choice::OfSort(Sort::Custom)),
+        Code::UnknownFact => Some(Choice::OfCategory(Category::Mistaken)),
+        Code::Unsupported => Some(Choice::OfCategory(Category::Unsupported)),
+        Code::Custom => Some(Choice::OfCategory(Category::Custom)),
         Code::ReadOtherwise => Some(Choice::Literal),
         _ => None,
     }
@@ -79,7 +79,7 @@ fn facts_at_fault(
     };
     let at_fault = chosen(alloc, predicates, choice)?;
     let mut spans = spans_in(alloc, &at_fault)?;
-    spans.truncate(TOLD);
+    spans.truncate(MOST_SHOWN);
     Ok(spans)
 }
 

@@ -1,7 +1,7 @@
 //! A rejected key with its mistakes corrected, each by a fixed rule.
 
 use known_targets::KnownTarget;
-use manifest_lints_standings::rustc_names::VALUED;
+use predicate_classes::rustc_names::VALUED;
 use std::alloc::{AllocError, Global};
 
 /// A piece of a rejected key.

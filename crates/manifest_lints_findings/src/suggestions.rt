@@ -12,24 +12,24 @@ use crate::readings::{ReadKey, Spelled};
 use crate::repairing::repaired_key;
 use cargo_platform::{Cfg, CfgExpr, Platform, ReadError};
 use known_targets::{KnownFact, all_facts};
-use manifest_lints_standings::key_predicates::KeyPredicate;
-use manifest_lints_standings::standing::{Sort, Standing, is_value_of};
+use predicate_classes::classes::{Category, Class, is_value_of};
+use predicate_classes::key_predicates::KeyPredicate;
 use std::alloc::{AllocError, Global};
 use std::cell::OnceCell;
 use toml::Value;
 
 /// The facts that known targets have.
 #[derive(Drop)]
-pub struct Words {
+pub struct KnownFacts {
     alloc: Global,
     // Empty until a value is compared with them: few manifests have a value that no target has.
     facts: OnceCell<Vec<KnownFact>>,
 }
 
-impl Words {
+impl KnownFacts {
     /// Returns the facts of all known targets. They are listed when a mistake is first compared with them.
-    pub fn new(alloc: Global) -> Result<Words, AllocError> {
-        Ok(Words {
+    pub fn new(alloc: Global) -> Result<KnownFacts, AllocError> {
+        Ok(KnownFacts {
             alloc,
             facts: OnceCell::new(),
         })
@@ -57,21 +57,21 @@ impl Words {
 /// Returns the text that can replace a mistaken name or pair. Fails if memory is refused.
 pub fn instead_of(
     alloc: Global,
-    words: &Words,
+    known_facts: &KnownFacts,
     predicate: &KeyPredicate<'_>,
 ) -> Result<Option<String>, AllocError> {
-    match (predicate.standing, predicate.fact) {
-        (Standing::ValueAsName(key), Cfg::Name(name)) => { fact_of_name(alloc, key, name.as_str()) }
-        (Standing::OtherValue, Cfg::KeyPair(key, value)) => {
-            fact_instead_of(alloc, words, key.as_str(), value.as_str())
+    match (predicate.class, predicate.fact) {
+        (Class::ValueAsName(key), Cfg::Name(name)) => { fact_of_name(alloc, key, name.as_str()) }
+        (Class::OtherValue, Cfg::KeyPair(key, value)) => {
+            fact_instead_of(alloc, known_facts, key.as_str(), value.as_str())
         }
-        (Standing::Shortened, Cfg::KeyPair(key, value)) => {
-            long_fact(alloc, words, key.as_str(), value.as_str())
+        (Class::Shortened, Cfg::KeyPair(key, value)) => {
+            long_fact(alloc, known_facts, key.as_str(), value.as_str())
         }
-        (Standing::OtherWord, Cfg::Name(name)) => by_other_word(alloc, name.as_str()),
-        (Standing::Near(word), Cfg::Name(_)) => Ok(Some(String::from_str(alloc, word)?)),
-        (Standing::Near(word), Cfg::KeyPair(_, value)) => {
-            near_fact(alloc, words, word, value.as_str())
+        (Class::OtherWord, Cfg::Name(name)) => by_other_word(alloc, name.as_str()),
+        (Class::Near(word), Cfg::Name(_)) => Ok(Some(String::from_str(alloc, word)?)),
+        (Class::Near(word), Cfg::KeyPair(_, value)) => {
+            near_fact(alloc, known_facts, word, value.as_str())
         }
         _ => Ok(None),
     }
@@ -94,13 +94,13 @@ fn fact_of_name(alloc: Global, key: &str, name: &str) -> Result<Option<String>, 
 /// Returns the value of the key that may be meant by another one.
 fn value_instead_of<'a>(
     alloc: Global,
-    words: &'a Words,
+    known_facts: &'a KnownFacts,
     key: &str,
     value: &str,
 ) -> Result<Option<&'a str>, AllocError> {
     match meant_value(alloc, key, value)? {
         Some(other) => Ok(Some(other)),
-        None => words.near_value(key, value),
+        None => known_facts.near_value(key, value),
     }
 }
 
@@ -170,7 +170,7 @@ fn any_of_joined(alloc: Global, key: &str, value: &str) -> Result<Option<String>
 /// Returns the text that can replace a pair whose value no known target has.
 fn fact_instead_of(
     alloc: Global,
-    words: &Words,
+    known_facts: &KnownFacts,
     key: &str,
     value: &str,
 ) -> Result<Option<String>, AllocError> {
@@ -192,7 +192,7 @@ fn fact_instead_of(
     if let Some(other) = any_of_joined(alloc, key, value)? {
         return Ok(Some(other));
     }
-    match words.near_value(key, value)? {
+    match known_facts.near_value(key, value)? {
         Some(other) => with_value(alloc, key, other),
         None => Ok(None),
     }
@@ -202,14 +202,14 @@ fn fact_instead_of(
 /// is meant.
 fn near_fact(
     alloc: Global,
-    words: &Words,
+    known_facts: &KnownFacts,
     key: &str,
     value: &str,
 ) -> Result<Option<String>, AllocError> {
     if is_value_of(alloc, key, value)? {
         return with_value(alloc, key, value);
     }
-    let found = fact_instead_of(alloc, words, key, value)?;
+    let found = fact_instead_of(alloc, known_facts, key, value)?;
     if found.is_some() {
         return Ok(found);
     }
@@ -229,7 +229,7 @@ fn long_key(alloc: Global, key: &str) -> Result<String, AllocError> {
 /// Returns the pair of a key with a value, or with the value that is meant.
 fn fact_of_value(
     alloc: Global,
-    words: &Words,
+    known_facts: &KnownFacts,
     key: &str,
     value: &str,
 ) -> Result<Option<String>, AllocError> {
@@ -242,7 +242,7 @@ fn fact_of_value(
     if key == "target_arch" && value == RISCV_WORD {
         return Ok(Some(String::from_str(alloc, RISCV)?));
     }
-    match value_instead_of(alloc, words, key, value)? {
+    match value_instead_of(alloc, known_facts, key, value)? {
         Some(other) => with_value(alloc, key, other),
         None => Ok(None),
     }
@@ -251,12 +251,12 @@ fn fact_of_value(
 /// Returns the pair with the full key, and with the value that is meant.
 fn long_fact(
     alloc: Global,
-    words: &Words,
+    known_facts: &KnownFacts,
     key: &str,
     value: &str,
 ) -> Result<Option<String>, AllocError> {
     let key = long_key(alloc, key)?;
-    fact_of_value(alloc, words, key.as_str(), value)
+    fact_of_value(alloc, known_facts, key.as_str(), value)
 }
 
 /// Returns the fact that is meant by another word for it.
@@ -351,11 +351,11 @@ fn named_target<'a>(key: &KnownKey<'a>) -> Option<&'a str> {
 fn push_repaired(
     repaired: &mut String,
     alloc: Global,
-    words: &Words,
+    known_facts: &KnownFacts,
     rest: (&str, usize),
     predicate: &KeyPredicate<'_>,
 ) -> Result<Option<usize>, AllocError> {
-    let Some(other) = instead_of(alloc, words, predicate)? else {
+    let Some(other) = instead_of(alloc, known_facts, predicate)? else {
         return Ok(None);
     };
     let Some(span) = predicate.span else {
@@ -370,15 +370,15 @@ fn push_repaired(
 /// Returns the key with each mistaken fact replaced, if each can be replaced.
 fn with_facts_replaced(
     alloc: Global,
-    words: &Words,
+    known_facts: &KnownFacts,
     key: &KnownKey<'_>,
 ) -> Result<Option<String>, AllocError> {
     let text = key.read.text;
     let mut repaired = String::new(alloc);
     let mut copied = 0;
     for predicate in &key.predicates {
-        if predicate.standing.sort().is(Sort::Mistaken) {
-            match push_repaired(&mut repaired, alloc, words, (text, copied), predicate)? {
+        if predicate.class.category().is(Category::Mistaken) {
+            match push_repaired(&mut repaired, alloc, known_facts, (text, copied), predicate)? {
                 Some(end) => copied = end,
                 None => return Ok(None),
             }
@@ -391,12 +391,12 @@ fn with_facts_replaced(
 /// Returns the target that a key alone names, or the key with each mistaken fact replaced.
 fn repaired(
     alloc: Global,
-    words: &Words,
+    known_facts: &KnownFacts,
     key: &KnownKey<'_>,
 ) -> Result<Option<String>, AllocError> {
     match named_target(key) {
         Some(name) => Ok(Some(String::from_str(alloc, name)?)),
-        None => with_facts_replaced(alloc, words, key),
+        None => with_facts_replaced(alloc, known_facts, key),
     }
 }
 
@@ -404,13 +404,13 @@ fn repaired(
 /// lint does not report anything. Fails if memory is refused.
 pub fn suggestion_of(
     alloc: Global,
-    words: &Words,
+    known_facts: &KnownFacts,
     key: &KnownKey<'_>,
     code: Code,
 ) -> Result<Option<String>, AllocError>
     ensures { IfOk result (λ s. IfSome s (λ text. IsMended code (string_bytes text))) }
 {
-    match text_instead(alloc, words, key, code)? {
+    match text_instead(alloc, known_facts, key, code)? {
         Some(text) if is_mended(alloc, text.as_str(), code)? => Ok(Some(text)),
         _ => Ok(None),
     }
@@ -446,7 +446,7 @@ fn is_rid_of(alloc: Global, text: &str, condition: Platform, code: Code) -> Resu
 /// Returns a text that may be meant in place of the whole key, for the diagnostic of this lint.
 fn text_instead(
     alloc: Global,
-    words: &Words,
+    known_facts: &KnownFacts,
     key: &KnownKey<'_>,
     code: Code,
 ) -> Result<Option<String>, AllocError> {
@@ -454,7 +454,7 @@ fn text_instead(
         (Code::Refused, _) => repaired_key(alloc, key.read.text),
         (Code::ReadOtherwise, Spelled::ByCargo(marked)) => Ok(Some(marked.key.clone()?)),
         (Code::UnknownTarget, _) => key_instead_of(alloc, key),
-        (Code::UnknownFact, _) => repaired(alloc, words, key),
+        (Code::UnknownFact, _) => repaired(alloc, known_facts, key),
         (Code::NotCanonical, _) => Ok(Some(key.canonical.clone()?)),
         _ => Ok(None),
     }

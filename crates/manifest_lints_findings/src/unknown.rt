@@ -11,7 +11,7 @@ use crate::findings::Finding;
 use crate::known_keys::KnownKey;
 use crate::making::finding_on;
 use crate::readings::ReadKey;
-use crate::suggestions::Words;
+use crate::suggestions::KnownFacts;
 use cargo_platform::Platform;
 use std::alloc::{AllocError, Global};
 
@@ -20,7 +20,7 @@ use std::alloc::{AllocError, Global};
 /// something that only `--cfg` or unstable features set. Fails if memory is refused.
 pub fn unknown_in(
     alloc: Global,
-    words: &Words,
+    known_facts: &KnownFacts,
     key: &str,
     condition: Platform,
 ) -> Result<Vec<Finding>, AllocError>
@@ -29,16 +29,22 @@ pub fn unknown_in(
     let read = ReadKey::alone(key, condition);
     let known = KnownKey::alone(alloc, &read)?;
     let mut findings = Vec::new(alloc);
-    add_where(alloc, words, &known, Code::UnknownTarget, &mut findings)?;
-    add_where(alloc, words, &known, Code::UnknownFact, &mut findings)?;
-    add_where(alloc, words, &known, Code::Custom, &mut findings)?;
+    add_where(
+        alloc,
+        known_facts,
+        &known,
+        Code::UnknownTarget,
+        &mut findings,
+    )?;
+    add_where(alloc, known_facts, &known, Code::UnknownFact, &mut findings)?;
+    add_where(alloc, known_facts, &known, Code::Custom, &mut findings)?;
     Ok(findings)
 }
 
 /// Appends the diagnostic of this lint, if the lint applies to the key.
 fn add_where(
     alloc: Global,
-    words: &Words,
+    known_facts: &KnownFacts,
     key: &KnownKey<'_>,
     code: Code,
     findings: &mut Vec<Finding>,
@@ -47,7 +53,7 @@ fn add_where(
         ≡ marks findings.old.items ++ mark_where key.now.place (holds_alone key.now code) code) }
 {
     if key.holds(code) {
-        findings.push(finding_on(alloc, words, key, "", code)?)?;
+        findings.push(finding_on(alloc, known_facts, key, "", code)?)?;
     }
     Ok(())
 }

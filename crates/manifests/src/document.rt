@@ -5,7 +5,7 @@ ghost use Rattle.toml.specs.View.{table_view};
 ghost use Rattle.manifests.specs.Tables.{target_of, target_told};
 ghost use Rattle.manifests.specs.Documents.{AreInSomeOrder};
 
-use crate::places::Places;
+use crate::locations::Locations;
 use crate::{Targets, target_keys};
 use std::alloc::{AllocError, Global};
 use toml::Table;
@@ -14,7 +14,7 @@ use toml::Table;
 #[derive(Drop)]
 pub struct Document {
     pub table: Table,
-    pub places: Places,
+    pub locations: Locations,
 }
 
 impl Document {
@@ -23,7 +23,7 @@ impl Document {
     pub fn of(alloc: Global, table: Table, text: &str) -> Result<Document, AllocError> {
         Ok(Document {
             table,
-            places: Places::of(alloc, text)?,
+            locations: Locations::of(alloc, text)?,
         })
     }
 
@@ -31,7 +31,7 @@ impl Document {
     pub fn of_table(alloc: Global, table: Table) -> Document {
         Document {
             table,
-            places: Places::none(alloc),
+            locations: Locations::none(alloc),
         }
     }
 
@@ -42,7 +42,7 @@ impl Document {
     {
         match target_keys(alloc, &self.table)? {
             Targets::Keys(mut keys) => {
-                keys.sort_by_cached_key(|key| self.places.place_of(key.key))?;
+                keys.sort_by_cached_key(|key| self.locations.place_of(key.key))?;
                 Ok(Targets::Keys(keys))
             }
             Targets::NoTable => Ok(Targets::NoTable),

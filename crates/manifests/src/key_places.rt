@@ -3,7 +3,7 @@
 //! The text is one that parses. This pass goes through it with the toolchain's readers of keys and values. It ends at
 //! the path, or at anything unexpected, and then the place is not known.
 
-use crate::places::Location;
+use crate::locations::Location;
 use crate::reading::location_of;
 use std::alloc::{AllocError, AllocFailed, Global};
 use std::ops::ControlFlow;

@@ -3,7 +3,7 @@
 ghost use Rattle.std.specs.Prelude.{◌≡◌, IfOk, IfSome, string_bytes};
 ghost use Rattle.manifests.specs.Located.{IsAtName, IsAtPart};
 
-use crate::places::{Location, Places};
+use crate::locations::{Location, Locations};
 use std::alloc::{AllocError, Global};
 use toml_spans::{Position, Span, part_of_name, spells};
 
@@ -62,7 +62,7 @@ fn at_part(
     }
 }
 
-impl Places {
+impl Locations {
     /// Returns the place of a key of `target`, if it is known. Fails if an allocation fails.
     pub fn located_key(&self, alloc: Global, key: &str) -> Result<Option<Location>, AllocError>
         // The place lies in the text, and the text there spells the key.

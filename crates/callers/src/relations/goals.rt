@@ -3,7 +3,7 @@
 
 use crate::support::expression;
 use cargo_platform::{Cfg, ReadError};
-use exact_answers::goal_diagrams::{Choice, Goal, Outcome, find_way};
+use exact_answers::goal_diagrams::{Choice, Goal, Outcome, find_choices};
 use partial_facts::OneValued;
 use std::alloc::{AllocError, Global};
 use std::process::Abort;
@@ -120,7 +120,7 @@ fn found_among(
         complete: &["unix"],
         single: &["target_os"],
     };
-    find_way(alloc, goals, &asked, &known, &["target_os"], most_nodes)
+    find_choices(alloc, goals, &asked, &known, &["target_os"], most_nodes)
 }
 
 /// Returns the facts that a path chooses, and `unix`.

@@ -12,7 +12,7 @@ use Rattle.exact_answers.specs.Asking.{asks, some_asks}
 use Rattle.exact_answers.specs.Inside.Paths.{Turn, Base, told_on}
 use Rattle.exact_answers.specs.Inside.Searches.{goal_trees}
 use Rattle.exact_answers.specs.declared.goal_diagrams.making.Goal.{Goal}
-use Rattle.exact_answers.specs.declared.outlook.Words.{Words}
+use Rattle.exact_answers.specs.declared.outlook.PairSets.{PairSets}
 use Rattle.exact_answers.specs.declared.outlook.Finding.{Finding}
 use Rattle.exact_answers.specs.declared.outlook.Seen.{Seen}
 use Rattle.exact_answers.specs.declared.outlook.Seen.TheVariants as seen
@@ -47,7 +47,7 @@ worked_out s (o ∷ os) bs = worked_out s os (done s o bs)
 abbrev pub outcome : FactSet → Outlook → List Goal → List Bool
 outcome s outlook left = worked_out s (reverse outlook.operations.items) (map (meets s) left)
 
-abbrev pub table_pairs : List Words → List Pair
+abbrev pub table_pairs : List PairSets → List Pair
 table_pairs ws = map (λ w. pair_of (value_of w.pair.now)) ws
 
 -- each pair with a number is one of some pairs
@@ -74,35 +74,35 @@ abbrev pub goals_size : List Goal → ℕ
 goals_size gs = sum (map (λ g. node_count g.e.now) gs)
 
 -- the set of facts s agrees with the set l of the 64 in a pair, and with what is told of it
-abbrev pub Fits : FactSet → ℕ → Words → Type 0
+abbrev pub Fits : FactSet → ℕ → PairSets → Type 0
 Fits s l w = (contains s (pair_of (value_of w.pair.now)) ≡ true → bit_at w.with l ≡ 1)
     × (contains s (pair_of (value_of w.pair.now)) ≡ false → bit_at w.without l ≡ 1)
     × IfSome w.tells (λ b. contains s (pair_of (value_of w.pair.now)) ≡ b)
 
 -- nothing is told of the pair with this number
-abbrev pub IsOpenAt : List Words → ℕ → Type 0
+abbrev pub IsOpenAt : List PairSets → ℕ → Type 0
 IsOpenAt [] n = ⊥
 IsOpenAt (w ∷ ws) zero = w.tells ≡ None
 IsOpenAt (w ∷ ws) (suc n) = IsOpenAt ws n
 
 -- what is seen of a goal is its truth, or it depends on an open pair
-abbrev pub IsSeen : List Words → Seen → Bool → Type 0
+abbrev pub IsSeen : List PairSets → Seen → Bool → Type 0
 IsSeen table (seen.Known c) b = b ≡ c
 IsSeen table (seen.Open n) b = IsOpenAt table n
 
 -- what is found of a goal with this truth: it has the set l where the goal is met, and what is seen is so
-abbrev pub Says : List Words → ℕ → Finding → Bool → Type 0
+abbrev pub Says : List PairSets → ℕ → Finding → Bool → Type 0
 Says table l f b = (b ≡ true → bit_at f.sets l ≡ 1) × IsSeen table f.seen b
 
 -- each is found of a goal with its truth
-abbrev pub Covers : List Words → ℕ → List Finding → List Bool → Type 0
+abbrev pub Covers : List PairSets → ℕ → List Finding → List Bool → Type 0
 Covers table l [] [] = Unit {0}
 Covers table l [] (b ∷ bs) = ⊥
 Covers table l (f ∷ fs) [] = ⊥
 Covers table l (f ∷ fs) (b ∷ bs) = Says table l f b × Covers table l fs bs
 
 -- what is told of each pair on a path
-abbrev pub AreTold : Base → List Turn → List Words → Type 0
+abbrev pub AreTold : Base → List Turn → List PairSets → Type 0
 AreTold k ds [] = Unit {0}
 AreTold k ds (w ∷ ws) = (w.tells ≡ told_on k ds (pair_of (value_of w.pair.now))) × AreTold k ds ws
 
@@ -121,13 +121,13 @@ AllSo l [] = Unit {0}
 AllSo l (c ∷ cs) = IsSo l c.0 c.1 × AllSo l cs
 
 -- with some choice among the patterns that are used up, each of the 64 sets that agrees with it fits the words
-abbrev pub AreChosen : FactSet → List ℕ → List Words → Type 0
+abbrev pub AreChosen : FactSet → List ℕ → List PairSets → Type 0
 AreChosen s left ws =
     (cs : List (ℕ × Bool)) × (map (λ c. c.0) cs ++ left ≡ patterns)
     × ((l : ℕ) → l < 64 → AllSo l cs → All (Fits s l) ws)
 
 -- the words of a further pair, and the patterns that are left then
-abbrev pub IsNext : Pair → Option Bool → List ℕ → Words → List ℕ → Type 0
+abbrev pub IsNext : Pair → Option Bool → List ℕ → PairSets → List ℕ → Type 0
 IsNext p tells left w others =
-    (s : FactSet) (ws : List Words) → IfSome tells (λ b. contains s p ≡ b) → AreChosen s left ws
+    (s : FactSet) (ws : List PairSets) → IfSome tells (λ b. contains s p ≡ b) → AreChosen s left ws
     → AreChosen s others (ws ++ w ∷ [])

@@ -71,7 +71,7 @@ fn way_from(alloc: Global, table: &Table, place: usize) -> Result<Outcome, Alloc
 
 /// Returns whether each goal can be met, by a diagram whose nodes test these pairs, in this order. A set of facts is
 /// possible if `known` allows it, and if no key in `single` has two values in it that are open by `known`.
-pub fn find_way<K: Knowledge>(
+pub fn find_choices<K: Knowledge>(
     alloc: Global,
     goals: &[Goal<'_>],
     pairs: &[&Cfg],

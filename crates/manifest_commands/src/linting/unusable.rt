@@ -47,13 +47,13 @@ fn report_deep(
     deep: DeepKey,
     run: &mut LintRun<'_>,
 ) -> Result<(), AllocError> {
-    let places = &manifest.document.places;
+    let locations = &manifest.document.locations;
     let key = deep.key.as_str();
     let message = deep.message.clone()?;
-    let diagnostic = diagnostic_of_key(alloc, places, key, deep.byte, message)?;
+    let diagnostic = diagnostic_of_key(alloc, locations, key, deep.byte, message)?;
     let source = Source {
         path: manifest.path.as_str(),
-        text: places.text.as_str(),
+        text: locations.text.as_str(),
     };
     run.report_failure(alloc, &source, &diagnostic)
 }
@@ -145,7 +145,7 @@ fn report_rejected(
     let diagnostic = diagnostic_of_failure(alloc, message, rejected.at)?;
     let source = Source {
         path: manifest.path.as_str(),
-        text: manifest.document.places.text.as_str(),
+        text: manifest.document.locations.text.as_str(),
     };
     run.report_failure(alloc, &source, &diagnostic)
 }

@@ -5,7 +5,7 @@ use Rattle.exact_answers.proofs.diagram.outcome_within.Goals as goal
 
 pub returns : goal.returns
 returns c =
-    IfOk-weaker c.find_way.result _ _
+    IfOk-weaker c.find_choices.result _ _
     (λ r says. missed c.new-path.result c.args.known.now c.args.goals.now (pairs_of c.args.pairs.now) r
     c.new-path.ensures.known c.new-path.ensures.none says)
-    c.find_way.ensures
+    c.find_choices.ensures

@@ -3,8 +3,8 @@ use Rattle.std.proofs.lemmas.List.{length-map}
 use Rattle.cargo_platform.specs.Trees.{condition_of}
 use Rattle.manifests.specs.Declarations.{declarations_of}
 use Rattle.manifest_lints.specs.Earlier.{is_undecided}
-use Rattle.manifest_lints_standings.specs.Standings.{sorted_of, sorted_in}
-use Rattle.manifest_lints_findings.specs.Known.{sorted_of_spelled}
+use Rattle.predicate_classes.specs.Classes.{classified_of, classified_in}
+use Rattle.manifest_lints_findings.specs.Known.{classified_of_spelled}
 use Rattle.manifest_lints.proofs.CheckedKeys.{beside_others, one_or}
 use Rattle.manifest_lints.proofs.MoreEquivalents.{open_beside}
 use Rattle.manifest_lints.proofs.Missed.{decided_then}
@@ -22,8 +22,8 @@ returns-clause-left_open c = λ known is es members much holds.
     let ds = declarations_of c.args.context.now.declared.now in
     let p = condition_of c.args.condition.now in
     let key = c.args.key.now in
-    let long : length key.predicates.items ≡ length (sorted_in ds p) =
-    sym (length-map key.predicates.items sorted_of) ∙ ap length (known.predicates ∙ ap (sorted_of_spelled ds) is) in
+    let long : length key.predicates.items ≡ length (classified_in ds p) =
+    sym (length-map key.predicates.items classified_of) ∙ ap length (known.predicates ∙ ap (classified_of_spelled ds) is) in
     elim (one_or _ _ (sym c.either.ensures ∙ holds)) [
       | inl alone ↦ c.in_ok-answers.ensures.left_open known is es alone
       | inr beside ↦

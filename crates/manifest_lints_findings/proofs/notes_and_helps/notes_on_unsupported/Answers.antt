@@ -1,6 +1,6 @@
 use Rattle.std.proofs.Common.{[], ◌∷◌}
 use Rattle.std.proofs.lemmas.Result.{IfOk-weaker}
-use Rattle.manifest_lints_standings.specs.declared.standing.Sort.TheVariants as sort
+use Rattle.predicate_classes.specs.declared.classes.Category.TheVariants as category
 use Rattle.manifest_lints_findings.specs.Chosen.{chosen}
 use Rattle.manifest_lints_findings.specs.Messages.{said, unsupported_in}
 use Rattle.manifest_lints_findings.specs.Texts.{Mentions}
@@ -10,6 +10,6 @@ use Rattle.manifest_lints_findings.proofs.notes_and_helps.notes_on_unsupported.G
 
 pub returns : goal.returns
 returns c =
-    let ts = unsupported_in (chosen (choice.OfSort sort.Unsupported) c.args.key.now.predicates.items) ∷ [] in
+    let ts = unsupported_in (chosen (choice.OfCategory category.Unsupported) c.args.key.now.predicates.items) ∷ [] in
     IfOk-weaker c.only.result _ (λ notes. Mentions ts (said notes.items))
     (λ notes is. one_said ts notes.items c.in_ok-note.note is c.in_ok-note.ensures) c.only.ensures

@@ -1,5 +1,0 @@
-use Rattle.manifest_lints_standings.proofs.Had.{no_mistake}
-use Rattle.manifest_lints_standings.proofs.laws.what_targets_have_is_no_mistake.Goals as goal
-
-pub returns : goal.returns
-returns c = no_mistake

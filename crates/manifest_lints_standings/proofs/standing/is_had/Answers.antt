@@ -1,8 +1,0 @@
-use Rattle.cargo_platform.specs.Trees.{value_of}
-use Rattle.manifest_lints_standings.proofs.Standings.{had_iff}
-use Rattle.manifest_lints_standings.proofs.standing.is_had.Goals as goal
-
-pub returns : goal.returns
-returns c =
-    had_iff (value_of c.args.c.now) c.having.result c.is_empty.result c.having.ensures c.is_empty.ensures.yes
-    c.is_empty.ensures.no

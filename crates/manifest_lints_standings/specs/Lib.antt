@@ -1,3 +1,0 @@
-pub mod Standings
-pub mod Laws
-pub mod Rules

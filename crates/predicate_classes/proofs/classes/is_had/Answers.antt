@@ -1,0 +1,8 @@
+use Rattle.cargo_platform.specs.Trees.{value_of}
+use Rattle.predicate_classes.proofs.Classes.{had_iff}
+use Rattle.predicate_classes.proofs.classes.is_had.Goals as goal
+
+pub returns : goal.returns
+returns c =
+    had_iff (value_of c.args.c.now) c.having.result c.is_empty.result c.having.ensures c.is_empty.ensures.yes
+    c.is_empty.ensures.no
