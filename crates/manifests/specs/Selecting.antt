@@ -18,6 +18,7 @@ use Rattle.manifests.specs.Tables.{DependencyRow, row_of, rows_of, target_of}
 use Rattle.manifests.specs.declared.selection.TargetFacts.{TargetFacts}
 use Rattle.manifests.specs.declared.selection.Choice.{Choice}
 use Rattle.manifests.specs.declared.selection.Choice.TheVariants.{Selected}
+use Rattle.manifests.specs.declared.selection.Query.{Query}
 use Rattle.manifests.specs.declared.selection.Row.{Row}
 use Rattle.manifests.specs.declared.selection.SelectError.{SelectError}
 use Rattle.manifests.specs.declared.selection.SelectError.TheVariants.{Memory, TargetIsNoTable, KeyIsNoTable, Refused}
@@ -39,6 +40,9 @@ question_of target known host = record {
       (map (λ t. t.now) known.open.now);
   host = host;
 }
+
+abbrev pub question_in : Query → Question
+question_in q = question_of q.target.now q.known.now q.host
 
 -- ---- the choice of a dependency
 

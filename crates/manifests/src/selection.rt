@@ -9,8 +9,8 @@ ghost use Rattle.partial_facts.specs.Conditions.{kleene_condition, residual_cond
 ghost use Rattle.manifests.specs.Choosing.{choice_of, IfOpen};
 ghost use Rattle.manifests.specs.Entries.{entry_of};
 ghost use Rattle.manifests.specs.Tables.{row_of, rows_of, target_of};
-ghost use Rattle.manifests.specs.Selecting.{question_of, IsHostChoice, IsChoiceFor, chosen_of, selected};
-ghost use Rattle.manifests.specs.Selecting.{AreChosen, AreRowsOfKey, AreRowsOfKeys, AreRows, Adds};
+ghost use Rattle.manifests.specs.Selecting.{question_of, question_in, IsHostChoice, IsChoiceFor};
+ghost use Rattle.manifests.specs.Selecting.{chosen_of, selected, AreChosen, AreRowsOfKey, AreRowsOfKeys, AreRows, Adds};
 ghost use Rattle.manifests.specs.Selecting.{IsErrorOn, IsErrorUnder};
 
 use crate::{Dependency, Kind, TargetKey, Targets, dependencies, target_keys};
@@ -137,6 +137,14 @@ impl<'a> Knowledge for TargetFacts<'a> {
         (map (λ t. t.now) k.open.now) s p is };
 }
 
+/// A target by its name and the known facts, and the host, if it is known.
+#[derive(Clone, Copy, Drop)]
+struct Query<'q, 'f> {
+    target: &'q str,
+    known: &'q TargetFacts<'f>,
+    host: Option<KnownTarget>,
+}
+
 /// Decides a condition for the host. Without a host, the condition stays open as it is.
 fn choose_for_host(
     alloc: Global,
@@ -157,15 +165,13 @@ fn choose_for(
     alloc: Global,
     platform: &Platform,
     kind: Kind,
-    target: &str,
-    known: &TargetFacts<'_>,
-    host: Option<KnownTarget>,
+    query: Query<'_, '_>,
 ) -> Result<Choice, AllocError>
-    ensures { IfOk result (IsChoiceFor (question_of target.now known.now host) kind (condition_of platform.now)) }
+    ensures { IfOk result (IsChoiceFor (question_in query.entry) kind (condition_of platform.now)) }
 {
     match kind {
-        Kind::Normal | Kind::Development => choose(alloc, platform, target, known),
-        Kind::Build => choose_for_host(alloc, platform, host),
+        Kind::Normal | Kind::Development => choose(alloc, platform, query.target, query.known),
+        Kind::Build => choose_for_host(alloc, platform, query.host),
     }
 }
 
@@ -192,7 +198,12 @@ pub fn select<'a>(
         Targets::Absent => Ok(rows),
         Targets::NoTable => Err(SelectError::TargetIsNoTable),
         Targets::Keys(keys) => {
-            add_keys(alloc, &keys, target, known, host, &mut rows)?;
+            let query = Query {
+                target,
+                known,
+                host,
+            };
+            add_keys(alloc, &keys, query, &mut rows)?;
             Ok(rows)
         }
     }
@@ -218,17 +229,15 @@ fn outside<'a>(alloc: Global, manifest: &'a Table) -> Result<Vec<Row<'a>>, Alloc
 fn add_keys<'a>(
     alloc: Global,
     keys: &[TargetKey<'a>],
-    target: &str,
-    known: &TargetFacts<'_>,
-    host: Option<KnownTarget>,
+    query: Query<'_, '_>,
     rows: &mut Vec<Row<'a>>,
 ) -> Result<(), SelectError<'a>>
-    ensures rows { OnOk result (Adds (AreRowsOfKeys (question_of target.now known.now host) (map entry_of keys.now))
+    ensures rows { OnOk result (Adds (AreRowsOfKeys (question_in query.entry) (map entry_of keys.now))
         rows.old.items rows.new.items) }
     ensures error { IfErr result (IsErrorUnder (Some (Some (map entry_of keys.now)))) }
 {
     'keys: for key in keys {
-        add_rows(alloc, *key, target, known, host, rows)?;
+        add_rows(alloc, *key, query, rows)?;
     }
     Ok(())
 }
@@ -237,12 +246,10 @@ fn add_keys<'a>(
 fn add_rows<'a>(
     alloc: Global,
     key: TargetKey<'a>,
-    target: &str,
-    known: &TargetFacts<'_>,
-    host: Option<KnownTarget>,
+    query: Query<'_, '_>,
     rows: &mut Vec<Row<'a>>,
 ) -> Result<(), SelectError<'a>>
-    ensures rows { OnOk result (Adds (AreRowsOfKey (question_of target.now known.now host) (entry_of key.entry))
+    ensures rows { OnOk result (Adds (AreRowsOfKey (question_in query.entry) (entry_of key.entry))
         rows.old.items rows.new.items) }
     ensures error { IfErr result (IsErrorOn (entry_of key.entry)) }
 {
@@ -255,7 +262,7 @@ fn add_rows<'a>(
         return Err(SelectError::KeyIsNoTable(key.key));
     };
     let dependencies = dependencies(alloc, table, Some(key.key))?;
-    add_chosen(alloc, &condition, &dependencies, target, known, host, rows)?;
+    add_chosen(alloc, &condition, &dependencies, query, rows)?;
     Ok(())
 }
 
@@ -264,16 +271,14 @@ fn add_chosen<'a>(
     alloc: Global,
     condition: &Platform,
     dependencies: &[Dependency<'a>],
-    target: &str,
-    known: &TargetFacts<'_>,
-    host: Option<KnownTarget>,
+    query: Query<'_, '_>,
     rows: &mut Vec<Row<'a>>,
 ) -> Result<(), AllocError>
-    ensures { OnOk result (Adds (AreChosen (question_of target.now known.now host) (condition_of condition.now)
+    ensures { OnOk result (Adds (AreChosen (question_in query.entry) (condition_of condition.now)
         (map row_of dependencies.now)) rows.old.items rows.new.items) }
 {
     'dependencies: for dependency in dependencies {
-        let choice = choose_for(alloc, condition, dependency.kind, target, known, host)?;
+        let choice = choose_for(alloc, condition, dependency.kind, query)?;
         rows.push(Row {
             dependency: *dependency,
             choice,
