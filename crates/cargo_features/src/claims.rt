@@ -51,6 +51,14 @@ pub struct Step {
     pub condition: Condition,
 }
 
+/// The claim and the condition of steps to other claims, and whether there are such steps.
+#[derive(Clone, Copy, Drop)]
+pub struct Origin {
+    pub is_there: bool,
+    pub from: Claim,
+    pub condition: Condition,
+}
+
 impl Step {
     /// Returns a step from one claim.
     pub fn from_one(first: Claim, to: Claim, condition: Condition) -> Step
@@ -94,21 +102,23 @@ pub fn add(steps: &mut Vec<Step>, is_there: bool, step: Step) -> Result<(), Allo
     Ok(())
 }
 
-/// Appends steps from a claim to each of some features of a package, if `is_there`.
+/// Appends steps to each of some features of a package.
 pub fn add_features(
     steps: &mut Vec<Step>,
-    is_there: bool,
-    first: Claim,
+    origin: Origin,
     on: Place,
     features: &[usize],
-    condition: Condition,
 ) -> Result<(), AllocError>
     ensures { OnOk result (steps.new.items
-        ≡ steps.old.items ++ flat_map (to_feature is_there first on condition) features.now) }
+        ≡ steps.old.items ++ flat_map (to_feature origin.is_there origin.from on origin.condition) features.now) }
 {
     'features: for feature in features {
         let to = Claim::Feature(on.index, on.side, *feature);
-        add(steps, is_there, Step::from_one(first, to, condition))?;
+        add(
+            steps,
+            origin.is_there,
+            Step::from_one(origin.from, to, origin.condition),
+        )?;
     }
     Ok(())
 }

@@ -7,10 +7,29 @@ ghost use Rattle.cargo_features.specs.Steps.{strong_steps, weak_steps, member_st
 ghost use Rattle.cargo_features.specs.Steps.{all_features, steps_of, strong_at, weak_at, named_steps};
 
 use crate::build::Build;
-use crate::claims::{Claim, Condition, Place, Step, add, add_features};
+use crate::claims::{Claim, Condition, Origin, Place, Step, add, add_features};
 use crate::packages::{Dependency, Member, Package};
 use package_graphs::Side;
 use std::alloc::AllocError;
+
+/// A package on a side, and all packages.
+#[derive(Clone, Copy, Drop)]
+struct Unit<'a> {
+    packages: &'a [Package],
+    at: Place,
+    package: &'a Package,
+}
+
+/// An entry `d/g` or `d?/g` in the list of a feature.
+#[derive(Clone, Copy, Drop)]
+struct FeatureEntry {
+    /// The claim that the feature is on.
+    from: Claim,
+    /// The index of the dependency `d`.
+    place: usize,
+    /// The index of the feature `g` of the dependency's package.
+    feature: usize,
+}
 
 impl Place {
     /// Returns the claim that has to hold for a dependency to be followed, besides the claim that follows it: an
@@ -39,18 +58,21 @@ fn is_first_side(side: Side, unit: &Package) -> bool
 /// Appends a step to the feature of a dependency's name, if there is one.
 fn add_named(
     steps: &mut Vec<Step>,
-    is_there: bool,
-    from: Claim,
+    origin: Origin,
     at: Place,
     named: Option<usize>,
-    condition: Condition,
 ) -> Result<(), AllocError>
-    ensures { OnOk result (steps.new.items ≡ steps.old.items ++ named_steps is_there at from condition named) }
+    ensures { OnOk result (steps.new.items
+        ≡ steps.old.items ++ named_steps origin.is_there at origin.from origin.condition named) }
 {
     match named {
         Some(named) => {
             let own = Claim::Feature(at.index, at.side, named);
-            add(steps, is_there, Step::from_one(from, own, condition))
+            add(
+                steps,
+                origin.is_there,
+                Step::from_one(origin.from, own, origin.condition),
+            )
         }
         None => Ok(()),
     }
@@ -68,14 +90,12 @@ impl Build {
             begins,
             Step::from_one(Claim::Requested, active, Condition::Always),
         )?;
-        add_features(
-            steps,
-            begins,
-            Claim::Requested,
-            at,
-            &unit.requested,
-            Condition::Always,
-        )?;
+        let origin = Origin {
+            is_there: begins,
+            from: Claim::Requested,
+            condition: Condition::Always,
+        };
+        add_features(steps, origin, at, &unit.requested)?;
         let used = Claim::Used(at.index, at.side);
         let step = Step::from_one(Claim::Requested, used, Condition::Always);
         add(steps, is_first_side(at.side, unit), step)?;
@@ -86,49 +106,54 @@ impl Build {
     /// this requests.
     fn active(
         self,
-        packages: &[Package],
-        at: Place,
-        unit: &Package,
+        unit: Unit<'_>,
         place: usize,
         dependency: &Dependency,
         steps: &mut Vec<Step>,
     ) -> Result<(), AllocError>
         ensures { OnOk result (steps.new.items
-            ≡ steps.old.items ++ active_steps self packages.now at unit.now place dependency.now) }
+            ≡ steps.old.items ++ active_steps self unit.entry.packages.now unit.entry.at unit.entry.package.now place dependency.now) }
     {
-        let counts = self.considers(unit, dependency);
-        let from = at.gate(place, dependency, Claim::Active(at.index, at.side));
-        let end = self.feature_destination(packages, at.side, dependency);
+        let counts = self.considers(unit.package, dependency);
+        let from = unit.at.gate(
+            place,
+            dependency,
+            Claim::Active(unit.at.index, unit.at.side),
+        );
+        let end = self.feature_destination(unit.packages, unit.at.side, dependency);
         let active = Claim::Active(dependency.to, end.side);
         add(steps, counts, Step::from_one(from, active, end.condition))?;
         let on = Place {
             index: dependency.to,
             side: end.side,
         };
-        add_features(steps, counts, from, on, &dependency.features, end.condition)?;
+        let origin = Origin {
+            is_there: counts,
+            from,
+            condition: end.condition,
+        };
+        add_features(steps, origin, on, &dependency.features)?;
         Ok(())
     }
 
     /// Appends the step by which a package that is used uses the package of a dependency.
     fn used(
         self,
-        packages: &[Package],
-        at: Place,
-        unit: &Package,
+        unit: Unit<'_>,
         place: usize,
         dependency: &Dependency,
         steps: &mut Vec<Step>,
     ) -> Result<(), AllocError>
         ensures { OnOk result (steps.new.items
-            ≡ steps.old.items ++ used_steps self packages.now at unit.now place dependency.now) }
+            ≡ steps.old.items ++ used_steps self unit.entry.packages.now unit.entry.at unit.entry.package.now place dependency.now) }
     {
-        let is_followed = self.kinds.follow(unit.is_root, dependency.kind);
-        let used = Claim::Used(at.index, at.side);
+        let is_followed = self.kinds.follow(unit.package.is_root, dependency.kind);
+        let used = Claim::Used(unit.at.index, unit.at.side);
         let resolved = Place {
-            index: at.index,
-            side: self.feature_side(at.side),
+            index: unit.at.index,
+            side: self.feature_side(unit.at.side),
         };
-        let end = self.destination(packages, at.side, dependency);
+        let end = self.destination(unit.packages, unit.at.side, dependency);
         let step = Step {
             first: used,
             second: resolved.gate(place, dependency, used),
@@ -149,48 +174,53 @@ impl Build {
     /// and, if the dependency is optional, the dependency itself with the feature of its name.
     fn strong_at(
         self,
-        packages: &[Package],
-        at: Place,
-        unit: &Package,
-        from: Claim,
-        place: usize,
-        feature: usize,
+        unit: Unit<'_>,
+        entry: FeatureEntry,
         dependency: &Dependency,
         steps: &mut Vec<Step>,
     ) -> Result<(), AllocError>
         ensures { OnOk result (steps.new.items ≡ steps.old.items
-            ++ strong_at self packages.now at unit.now from place feature (Some dependency.now)) }
+            ++ strong_at self unit.entry.packages.now unit.entry.at unit.entry.package.now entry.from entry.place entry.feature (Some dependency.now)) }
     {
-        let counts = self.considers(unit, dependency);
-        let end = self.feature_destination(packages, at.side, dependency);
-        let theirs = Claim::Feature(dependency.to, end.side, feature);
-        add(steps, counts, Step::from_one(from, theirs, end.condition))?;
-        let turns_on = self.turns_on(unit, dependency);
-        let on = Claim::Dependency(at.index, at.side, place);
-        add(steps, turns_on, Step::from_one(from, on, end.condition))?;
-        add_named(steps, turns_on, from, at, dependency.named, end.condition)?;
+        let counts = self.considers(unit.package, dependency);
+        let end = self.feature_destination(unit.packages, unit.at.side, dependency);
+        let theirs = Claim::Feature(dependency.to, end.side, entry.feature);
+        add(
+            steps,
+            counts,
+            Step::from_one(entry.from, theirs, end.condition),
+        )?;
+        let turns_on = self.turns_on(unit.package, dependency);
+        let on = Claim::Dependency(unit.at.index, unit.at.side, entry.place);
+        let origin = Origin {
+            is_there: turns_on,
+            from: entry.from,
+            condition: end.condition,
+        };
+        add(
+            steps,
+            turns_on,
+            Step::from_one(entry.from, on, end.condition),
+        )?;
+        add_named(steps, origin, unit.at, dependency.named)?;
         Ok(())
     }
 
     /// Appends the steps of `d/g` for the dependency at an index, or none if there is no such dependency.
     fn strong(
         self,
-        packages: &[Package],
-        at: Place,
-        unit: &Package,
-        from: Claim,
-        place: usize,
-        feature: usize,
+        unit: Unit<'_>,
+        entry: FeatureEntry,
         steps: &mut Vec<Step>,
     ) -> Result<(), AllocError>
         ensures { OnOk result (steps.new.items
-            ≡ steps.old.items ++ strong_steps self packages.now at unit.now from place feature) }
+            ≡ steps.old.items ++ strong_steps self unit.entry.packages.now unit.entry.at unit.entry.package.now entry.from entry.place entry.feature) }
     {
-        if place >= unit.dependencies.len() {
+        if entry.place >= unit.package.dependencies.len() {
             return Ok(());
         }
-        let dependency = &unit.dependencies[place];
-        self.strong_at(packages, at, unit, from, place, feature, dependency, steps)?;
+        let dependency = &unit.package.dependencies[entry.place];
+        self.strong_at(unit, entry, dependency, steps)?;
         Ok(())
     }
 
@@ -198,24 +228,20 @@ impl Build {
     /// an optional dependency is on.
     fn weak_at(
         self,
-        packages: &[Package],
-        at: Place,
-        unit: &Package,
-        from: Claim,
-        place: usize,
-        feature: usize,
+        unit: Unit<'_>,
+        entry: FeatureEntry,
         dependency: &Dependency,
         steps: &mut Vec<Step>,
     ) -> Result<(), AllocError>
         ensures { OnOk result (steps.new.items ≡ steps.old.items
-            ++ weak_at self packages.now at unit.now from place feature (Some dependency.now)) }
+            ++ weak_at self unit.entry.packages.now unit.entry.at unit.entry.package.now entry.from entry.place entry.feature (Some dependency.now)) }
     {
-        let counts = self.considers(unit, dependency);
-        let end = self.feature_destination(packages, at.side, dependency);
+        let counts = self.considers(unit.package, dependency);
+        let end = self.feature_destination(unit.packages, unit.at.side, dependency);
         let step = Step {
-            first: from,
-            second: at.gate(place, dependency, from),
-            to: Claim::Feature(dependency.to, end.side, feature),
+            first: entry.from,
+            second: unit.at.gate(entry.place, dependency, entry.from),
+            to: Claim::Feature(dependency.to, end.side, entry.feature),
             condition: end.condition,
         };
         add(steps, counts, step)?;
@@ -225,70 +251,68 @@ impl Build {
     /// Appends the step of `d?/g` for the dependency at an index, or none if there is no such dependency.
     fn weak(
         self,
-        packages: &[Package],
-        at: Place,
-        unit: &Package,
-        from: Claim,
-        place: usize,
-        feature: usize,
+        unit: Unit<'_>,
+        entry: FeatureEntry,
         steps: &mut Vec<Step>,
     ) -> Result<(), AllocError>
         ensures { OnOk result (steps.new.items
-            ≡ steps.old.items ++ weak_steps self packages.now at unit.now from place feature) }
+            ≡ steps.old.items ++ weak_steps self unit.entry.packages.now unit.entry.at unit.entry.package.now entry.from entry.place entry.feature) }
     {
-        if place >= unit.dependencies.len() {
+        if entry.place >= unit.package.dependencies.len() {
             return Ok(());
         }
-        let dependency = &unit.dependencies[place];
-        self.weak_at(packages, at, unit, from, place, feature, dependency, steps)?;
+        let dependency = &unit.package.dependencies[entry.place];
+        self.weak_at(unit, entry, dependency, steps)?;
         Ok(())
     }
 
     /// Appends the steps by which a feature that is on turns on an entry of its list.
     fn member(
         self,
-        packages: &[Package],
-        at: Place,
-        unit: &Package,
+        unit: Unit<'_>,
         from: Claim,
         member: Member,
         steps: &mut Vec<Step>,
     ) -> Result<(), AllocError>
         ensures { OnOk result (steps.new.items
-            ≡ steps.old.items ++ member_steps self packages.now at unit.now from member) }
+            ≡ steps.old.items ++ member_steps self unit.entry.packages.now unit.entry.at unit.entry.package.now from member) }
     {
         match member {
             Member::Feature(feature) => {
-                let to = Claim::Feature(at.index, at.side, feature);
+                let to = Claim::Feature(unit.at.index, unit.at.side, feature);
                 add(steps, true, Step::from_one(from, to, Condition::Always))
             }
             Member::Dependency(place) => {
-                let to = Claim::Dependency(at.index, at.side, place);
+                let to = Claim::Dependency(unit.at.index, unit.at.side, place);
                 add(steps, true, Step::from_one(from, to, Condition::Always))
             }
             Member::Strong(place, feature) => {
-                self.strong(packages, at, unit, from, place, feature, steps)
+                let entry = FeatureEntry {
+                    from,
+                    place,
+                    feature,
+                };
+                self.strong(unit, entry, steps)
             }
             Member::Weak(place, feature) => {
-                self.weak(packages, at, unit, from, place, feature, steps)
+                let entry = FeatureEntry {
+                    from,
+                    place,
+                    feature,
+                };
+                self.weak(unit, entry, steps)
             }
         }
     }
 
     /// Appends the steps of a package's dependencies.
-    fn dependencies(
-        self,
-        packages: &[Package],
-        at: Place,
-        unit: &Package,
-        steps: &mut Vec<Step>,
-    ) -> Result<(), AllocError>
-        ensures { OnOk result (steps.new.items ≡ steps.old.items ++ dependency_steps self packages.now at unit.now) }
+    fn dependencies(self, unit: Unit<'_>, steps: &mut Vec<Step>) -> Result<(), AllocError>
+        ensures { OnOk result (steps.new.items ≡ steps.old.items ++ dependency_steps self unit.entry.packages.now unit.entry.at unit.entry.package.now) }
     {
-        'dependencies: for i in 0..unit.dependencies.len() {
-            let dependency = &unit.dependencies[i];
-            self.active(packages, at, unit, i, dependency, steps)?;
-            self.used(packages, at, unit, i, dependency, steps)?;
+        'dependencies: for i in 0..unit.package.dependencies.len() {
+            let dependency = &unit.package.dependencies[i];
+            self.active(unit, i, dependency, steps)?;
+            self.used(unit, i, dependency, steps)?;
         }
         Ok(())
     }
@@ -296,36 +320,28 @@ impl Build {
     /// Appends the steps of one feature, which is given by its index and its list.
     fn feature(
         self,
-        packages: &[Package],
-        at: Place,
-        unit: &Package,
+        unit: Unit<'_>,
         place: usize,
         members: &[Member],
         steps: &mut Vec<Step>,
     ) -> Result<(), AllocError>
         ensures { OnOk result (steps.new.items
-            ≡ steps.old.items ++ feature_steps self packages.now at unit.now place members.now) }
+            ≡ steps.old.items ++ feature_steps self unit.entry.packages.now unit.entry.at unit.entry.package.now place members.now) }
     {
-        let from = Claim::Feature(at.index, at.side, place);
+        let from = Claim::Feature(unit.at.index, unit.at.side, place);
         'members: for member in members {
-            self.member(packages, at, unit, from, *member, steps)?;
+            self.member(unit, from, *member, steps)?;
         }
         Ok(())
     }
 
     /// Appends the steps of all features of a package.
-    fn features(
-        self,
-        packages: &[Package],
-        at: Place,
-        unit: &Package,
-        steps: &mut Vec<Step>,
-    ) -> Result<(), AllocError>
-        ensures { OnOk result (steps.new.items ≡ steps.old.items ++ all_features self packages.now at unit.now) }
+    fn features(self, unit: Unit<'_>, steps: &mut Vec<Step>) -> Result<(), AllocError>
+        ensures { OnOk result (steps.new.items ≡ steps.old.items ++ all_features self unit.entry.packages.now unit.entry.at unit.entry.package.now) }
     {
-        'features: for i in 0..unit.features.len() {
-            let members = &unit.features[i];
-            self.feature(packages, at, unit, i, members, steps)?;
+        'features: for i in 0..unit.package.features.len() {
+            let members = &unit.package.features[i];
+            self.feature(unit, i, members, steps)?;
         }
         Ok(())
     }
@@ -341,8 +357,13 @@ impl Build {
         ensures { OnOk result (steps.new.items ≡ steps.old.items ++ steps_of self packages.now at unit.now) }
     {
         self.root(at, unit, steps)?;
-        self.dependencies(packages, at, unit, steps)?;
-        self.features(packages, at, unit, steps)?;
+        let unit = Unit {
+            packages,
+            at,
+            package: unit,
+        };
+        self.dependencies(unit, steps)?;
+        self.features(unit, steps)?;
         Ok(())
     }
 }

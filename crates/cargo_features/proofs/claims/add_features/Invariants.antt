@@ -6,4 +6,4 @@ use Rattle.cargo_features.proofs.claims.add_features.Given as goal
 abbrev pub invariant-features : goal.invariant-features
 invariant-features l =
     l.steps.items ≡ l.fn.steps.items
-    ++ flat_map (to_feature l.is_there l.first l.on l.condition) (take l.feature-index l.features)
+    ++ flat_map (to_feature l.origin.is_there l.origin.from l.on l.origin.condition) (take l.feature-index l.features)

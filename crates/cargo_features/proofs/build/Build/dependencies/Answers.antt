@@ -8,11 +8,11 @@ use Rattle.cargo_features.proofs.build.Build.dependencies.Goals as goal
 pub dependencies-preserved : goal.dependencies-preserved
 dependencies-preserved c =
     let active = λ (i : ℕ) (d : Dependency).
-    active_steps c.args.self c.args.packages.now c.args.at c.args.unit.now i d in
+    active_steps c.args.self c.args.unit.packages.now c.args.unit.at c.args.unit.package.now i d in
     let used = λ (i : ℕ) (d : Dependency).
-    used_steps c.args.self c.args.packages.now c.args.at c.args.unit.now i d in
+    used_steps c.args.self c.args.unit.packages.now c.args.unit.at c.args.unit.package.now i d in
     let f = λ (i : ℕ) (d : Dependency). active i d ++ used i d in
-    let deps = c.args.unit.now.dependencies.items in
+    let deps = c.args.unit.package.now.dependencies.items in
     let i = c.dependencies.i in
     let d : Dependency = c.index-dependency.result.now in
     let before : List Step = c.dependencies.steps.items in
@@ -20,7 +20,7 @@ dependencies-preserved c =
       arith,
       c.dependencies-test.true,
       c.len-i-end.ensures,
-      c.args.unit.now.dependencies.ok.0,
+      c.args.unit.package.now.dependencies.ok.0,
     ) in
     c.in_ok-used.ensures
     ∙ ap (λ (ss : List Step). ss ++ used i d) c.in_ok-active.ensures

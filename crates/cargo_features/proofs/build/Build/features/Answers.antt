@@ -8,14 +8,14 @@ use Rattle.cargo_features.proofs.build.Build.features.Goals as goal
 pub features-preserved : goal.features-preserved
 features-preserved c =
     let steps = λ (i : ℕ) (members : List Member).
-    feature_steps c.args.self c.args.packages.now c.args.at c.args.unit.now i members in
+    feature_steps c.args.self c.args.unit.packages.now c.args.unit.at c.args.unit.package.now i members in
     let f = λ (i : ℕ) (members : Vec Member Global). steps i members.items in
-    let lists = c.args.unit.now.features.items in
+    let lists = c.args.unit.package.now.features.items in
     let i = c.features.i in
     let members : Vec Member Global = c.index-members.result.now in
     let so_far = c.args.steps.now.items ++ at_each 0 f (take i lists) in
     let inside : i < length lists =
-    omega (arith, c.features-test.true, c.len-i-end.ensures, c.args.unit.now.features.ok.0) in
+    omega (arith, c.features-test.true, c.len-i-end.ensures, c.args.unit.package.now.features.ok.0) in
     c.in_ok-feature.ensures
     ∙ ap (λ (ss : List Step). ss ++ steps i c.deref.result.now) c.features.invariant
     ∙ ap (λ (ms : List Member). so_far ++ steps i ms)
