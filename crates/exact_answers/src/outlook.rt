@@ -375,15 +375,11 @@ fn pair_sets_of<'a>(
 }
 
 /// Returns the sets over which the pair may have this truth.
-fn sets_of(pair_sets: &PairSets<'_>, wanted: bool) -> u64
-    ensures { (s : FactSet) (l : ℕ) → Fits s l pair_sets.now
-        → true_as_wanted wanted (contains s (pair_of (value_of pair_sets.now.pair.now))) ≡ true → bit_at result l ≡ 1 }
+fn sets_of(sets: &PairSets<'_>, wanted: bool) -> u64
+    ensures { (s : FactSet) (l : ℕ) → Fits s l sets.now
+        → true_as_wanted wanted (contains s (pair_of (value_of sets.now.pair.now))) ≡ true → bit_at result l ≡ 1 }
 {
-    if wanted {
-        pair_sets.with
-    } else {
-        pair_sets.without
-    }
+    if wanted { sets.with } else { sets.without }
 }
 
 /// Returns what is seen of a pair with a wanted truth.
