@@ -1,3 +1,3 @@
-pub mod Classes
+pub mod Categories
 pub mod Rules
 pub mod Had

@@ -1,5 +1,5 @@
 use Rattle.cargo_platform.specs.Trees.{value_of}
-use Rattle.predicate_classes.proofs.Classes.{had_iff}
+use Rattle.predicate_classes.proofs.Categories.{had_iff}
 use Rattle.predicate_classes.proofs.classes.is_had.Goals as goal
 
 pub returns : goal.returns
