@@ -8,7 +8,7 @@ pub fn one_level()
 {}
 
 /// States that a diagnostic keeps its level if no rule applies to it.
-pub fn unheard_rules_do_nothing()
+pub fn rules_that_do_not_apply_do_nothing()
     ensures { IsKept }
 {}
 

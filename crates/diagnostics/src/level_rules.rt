@@ -144,7 +144,7 @@ fn is_meant(meant: &Option<String>, key: Option<&str>) -> bool
 
 impl Rule {
     /// Returns whether the rule applies to a diagnostic that has the level `level` after the rules before.
-    pub fn is_heard(&self, found: &Occurrence<'_>, level: LintLevel) -> bool
+    pub fn applies_to(&self, found: &Occurrence<'_>, level: LintLevel) -> bool
         ensures { IsTrue result
             ↔ Hears self.now (lint_word found.now.lint) (option_map (λ k. k.now) found.now.key) level }
     {
@@ -160,7 +160,7 @@ pub fn level_by(rules: &[Rule], found: &Occurrence<'_>) -> LintLevel
 {
     let mut level = found.level;
     'rules: for rule in rules {
-        if rule.is_heard(found, level) {
+        if rule.applies_to(found, level) {
             level = rule.setting.level();
         }
     }
@@ -173,7 +173,7 @@ impl Rule {
         ensures { IsTrue result ↔ IsNeeded self.now found.now }
     {
         for it in found {
-            if it.level != LintLevel::Allowed && self.is_heard(it, it.level) {
+            if it.level != LintLevel::Allowed && self.applies_to(it, it.level) {
                 return true;
             }
         }

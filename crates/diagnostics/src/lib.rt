@@ -18,7 +18,7 @@ mod unquoted;
 
 pub use diagnostic::{Diagnostic, Label, Reported, default_level, end_of, level_word, status_of};
 pub use failures::{diagnostic_of_failure, diagnostic_of_key, diagnostic_of_syntax};
-pub use level_laws::{one_level, the_last_decides, unheard_rules_do_nothing};
+pub use level_laws::{one_level, rules_that_do_not_apply_do_nothing, the_last_decides};
 pub use level_rules::{LintLevel, Occurrence, Rule, Setting, Subject, level_by, level_by_each};
 pub use removals::removals_of;
 pub use rendering::{coloured, push_rendered};

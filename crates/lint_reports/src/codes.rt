@@ -2,7 +2,7 @@
 
 use cargo_platform::shown_start;
 use diagnostics::{LintLevel, default_level};
-use manifest_lints_findings::{CODES, Code, LINTS_BESIDE, Lint, near};
+use manifest_lints_findings::{CODES, Code, LINTS_NOT_ON_KEYS, Lint, near};
 use std::alloc::{AllocError, Global};
 
 /// The explanation of a lint.
@@ -229,7 +229,7 @@ pub fn all_explained(alloc: Global) -> Result<Vec<Explained>, AllocError> {
     for code in &CODES {
         all.push(explanation_of(Lint::Key(*code)))?;
     }
-    for lint in &LINTS_BESIDE {
+    for lint in &LINTS_NOT_ON_KEYS {
         all.push(explanation_of(*lint))?;
     }
     Ok(all)

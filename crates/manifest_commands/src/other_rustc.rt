@@ -6,7 +6,7 @@ use former_names::former_target;
 use known_targets::KnownTarget;
 use manifest_answers::given_targets::GivenTargets;
 use manifest_lints::{Code, Report};
-use manifest_lints_findings::readings::Spelled;
+use manifest_lints_findings::readings::KeyMeaning;
 use manifest_lints_findings::{Children, Finding, Pointed};
 use manifests::Declared;
 use predicate_classes::key_predicates::{key_predicates, open_names};
@@ -60,7 +60,7 @@ impl OtherRustc {
         let mut added = Vec::new(alloc);
         let hiding = hiding_of(alloc, report)?;
         for (place, key) in report.keys.iter().enumerate() {
-            if let Spelled::Condition(condition) = &key.spelled {
+            if let KeyMeaning::Condition(condition) = &key.spelled {
                 let hides = hiding.get(place).copied().unwrap_or(Hiding::NOTHING);
                 let judged = Judged {
                     place,

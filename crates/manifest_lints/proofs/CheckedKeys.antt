@@ -12,8 +12,8 @@ use Rattle.manifest_lints_findings.specs.declared.codes.Code.{Code}
 use Rattle.manifest_lints_findings.specs.declared.codes.Code.TheVariants as code
 use Rattle.manifest_lints_findings.specs.declared.known_keys.KnownKey.{KnownKey}
 use Rattle.manifest_lints_findings.specs.declared.readings.ReadKey.{ReadKey}
-use Rattle.manifest_lints_findings.specs.declared.readings.Spelled.{Spelled}
-use Rattle.manifest_lints_findings.specs.declared.readings.Spelled.TheVariants as spelled
+use Rattle.manifest_lints_findings.specs.declared.readings.KeyMeaning.{KeyMeaning}
+use Rattle.manifest_lints_findings.specs.declared.readings.KeyMeaning.TheVariants as spelled
 use Rattle.manifest_lints_findings.specs.Known.{IsKnown, holds_alone, is_refused, is_by_cargo, is_condition}
 use Rattle.manifest_lints_findings.specs.Known.{has_marked_literal, classified_of_spelled, print_spelled, IsUnknownSpelled}
 use Rattle.manifest_lints_findings.specs.NoTables.{is_no_table}
@@ -72,22 +72,22 @@ beside_others k ds c a earlier open_too now_open is f = record {
 }
 
 -- a key that spells no condition asks for nothing, is the name of no target, and Cargo refuses or reads it
-nothing_asked : (ds : List DeclaredEntry) (s : Spelled) → is_condition s ≡ false → classified_of_spelled ds s ≡ []
+nothing_asked : (ds : List DeclaredEntry) (s : KeyMeaning) → is_condition s ≡ false → classified_of_spelled ds s ≡ []
 nothing_asked ds (spelled.Condition p) h = absurd (true≢false h)
 nothing_asked ds (spelled.ByCargo m) h = refl
 nothing_asked ds (spelled.Refused e) h = refl
 
-not_unknown : (s : Spelled) → is_condition s ≡ false → IsUnknownSpelled s → ⊥
+not_unknown : (s : KeyMeaning) → is_condition s ≡ false → IsUnknownSpelled s → ⊥
 not_unknown (spelled.Condition p) h u = absurd (true≢false h)
 not_unknown (spelled.ByCargo m) h u = u
 not_unknown (spelled.Refused e) h u = u
 
-one_of_two : (s : Spelled) → is_condition s ≡ false → (is_by_cargo s || false) ≡ not (is_refused s)
+one_of_two : (s : KeyMeaning) → is_condition s ≡ false → (is_by_cargo s || false) ≡ not (is_refused s)
 one_of_two (spelled.Condition p) h = absurd (true≢false h)
 one_of_two (spelled.ByCargo m) h = refl
 one_of_two (spelled.Refused e) h = refl
 
-pub spells_nothing : (text : List ℕ) (s : Spelled) → is_condition s ≡ false → IsSpelledAs text s → SpellsNothing text
+pub spells_nothing : (text : List ℕ) (s : KeyMeaning) → is_condition s ≡ false → IsSpelledAs text s → SpellsNothing text
 spells_nothing text (spelled.Condition p) h read = absurd (true≢false h)
 spells_nothing text (spelled.ByCargo m) h read = read
 spells_nothing text (spelled.Refused e) h read = read
@@ -146,7 +146,7 @@ module _ (k : Known) (ds : List DeclaredEntry) (r : ReadKey) (key : KnownKey) (k
       many = answers.many;
     })
 
-  module _ (es : List Entry) (ns : List ℕ) (s : Spelled) (is : r.spelled ≡ s) (none : is_condition s ≡ false) where
+  module _ (es : List Entry) (ns : List ℕ) (s : KeyMeaning) (is : r.spelled ≡ s) (none : is_condition s ≡ false) where
     unspelled : CheckedKey
     unspelled = record { key = key; answers = NONE }
 

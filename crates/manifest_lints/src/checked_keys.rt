@@ -28,7 +28,7 @@ use cargo_platform::Platform;
 use exact_answers::Known;
 use manifest_lints_findings::Code;
 use manifest_lints_findings::known_keys::KnownKey;
-use manifest_lints_findings::readings::{ReadKey, Spelled};
+use manifest_lints_findings::readings::{KeyMeaning, ReadKey};
 use manifests::Declared;
 use predicate_classes::key_predicates::open_names;
 use std::alloc::{AllocError, Global};
@@ -111,11 +111,11 @@ fn answers_alone<'a>(
     condition: &'a Platform,
 ) -> Result<Answers, AllocError>
     ensures alone { (IsKnown (declarations_of context.now.declared.now) key.now.read.now key.now)
-        → key.now.read.now.spelled ≡ Spelled.Condition condition.now
+        → key.now.read.now.spelled ≡ KeyMeaning.Condition condition.now
         → IfOk result (λ a. AnswersFor context.now.known.now (declarations_of context.now.declared.now)
         (condition_of condition.now) a) }
     ensures left_open { (IsKnown (declarations_of context.now.declared.now) key.now.read.now key.now)
-        → key.now.read.now.spelled ≡ Spelled.Condition condition.now → (es : List Entry)
+        → key.now.read.now.spelled ≡ KeyMeaning.Condition condition.now → (es : List Entry)
         → IfOk result (λ a. IsTrue a.is_open → MayBeOpen context.now.known.now (declarations_of context.now.declared.now)
         es key.now.read.now.text.now (condition_of condition.now)) }
 {
@@ -186,11 +186,11 @@ fn answers_of<'a>(
     before: &mut Keys<'a>,
 ) -> Result<Answers, AllocError>
     ensures alone { (IsKnown (declarations_of context.now.declared.now) key.now.read.now key.now)
-        → key.now.read.now.spelled ≡ Spelled.Condition condition.now
+        → key.now.read.now.spelled ≡ KeyMeaning.Condition condition.now
         → IfOk result (λ a. AnswersFor context.now.known.now (declarations_of context.now.declared.now)
         (condition_of condition.now) a) }
     ensures left_open { (IsKnown (declarations_of context.now.declared.now) key.now.read.now key.now)
-        → key.now.read.now.spelled ≡ Spelled.Condition condition.now → (es : List Entry) → AreMembers es before.old
+        → key.now.read.now.spelled ≡ KeyMeaning.Condition condition.now → (es : List Entry) → AreMembers es before.old
         → (IsTrue context.now.is_too_much → AreTooLong es key.now.read.now.text.now)
         → IfOk result (λ a. IsTrue a.is_open → MayBeOpen context.now.known.now (declarations_of context.now.declared.now)
         es key.now.read.now.text.now (condition_of condition.now)) }
@@ -249,10 +249,10 @@ pub fn check_key<'a>(
 {
     let key = KnownKey::of(alloc, read, place, context.declared)?;
     match &read.spelled {
-        Spelled::Condition(condition) => {
+        KeyMeaning::Condition(condition) => {
             let answers = answers_of(alloc, context, &key, condition, before)?;
             Ok(CheckedKey { key, answers })
         }
-        Spelled::ByCargo(_) | Spelled::Refused(_) => Ok(CheckedKey { key, answers: NONE }),
+        KeyMeaning::ByCargo(_) | KeyMeaning::Refused(_) => Ok(CheckedKey { key, answers: NONE }),
     }
 }

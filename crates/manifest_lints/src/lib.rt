@@ -12,7 +12,7 @@ mod shown_by_samples;
 
 pub use cargo_platform::values_of;
 pub use linting::lint;
-pub use manifest_lints_findings::readings::{ReadKey, Spelled};
+pub use manifest_lints_findings::readings::{KeyMeaning, ReadKey};
 pub use manifest_lints_findings::{
     Code, Finding, KnownFacts, Level, Report, nearest_target, unknown_in,
 };

@@ -13,8 +13,8 @@ use Rattle.manifest_lints_findings.specs.Spells.{entry_read}
 use Rattle.manifest_lints_findings.specs.declared.codes.Code.TheVariants as code
 use Rattle.manifest_lints_findings.specs.declared.known_keys.KnownKey.{KnownKey}
 use Rattle.manifest_lints_findings.specs.declared.readings.ReadKey.{ReadKey}
-use Rattle.manifest_lints_findings.specs.declared.readings.Spelled.{Spelled}
-use Rattle.manifest_lints_findings.specs.declared.readings.Spelled.TheVariants as spelled
+use Rattle.manifest_lints_findings.specs.declared.readings.KeyMeaning.{KeyMeaning}
+use Rattle.manifest_lints_findings.specs.declared.readings.KeyMeaning.TheVariants as spelled
 
 -- the name `r#true` or `r#false`, which Cargo reads as a literal
 abbrev pub is_marked_literal : CfgValue → Bool
@@ -24,33 +24,33 @@ is_marked_literal (KeyPair k v) = false
 abbrev pub has_marked_literal : List Classified → Bool
 has_marked_literal fs = list_any (λ f. is_marked_literal f.0) fs
 
-abbrev pub is_refused : Spelled → Bool
+abbrev pub is_refused : KeyMeaning → Bool
 is_refused (spelled.Condition p) = false
 is_refused (spelled.ByCargo m) = false
 is_refused (spelled.Refused e) = true
 
-abbrev pub is_by_cargo : Spelled → Bool
+abbrev pub is_by_cargo : KeyMeaning → Bool
 is_by_cargo (spelled.Condition p) = false
 is_by_cargo (spelled.ByCargo m) = true
 is_by_cargo (spelled.Refused e) = false
 
-abbrev pub is_condition : Spelled → Bool
+abbrev pub is_condition : KeyMeaning → Bool
 is_condition (spelled.Condition p) = true
 is_condition (spelled.ByCargo m) = false
 is_condition (spelled.Refused e) = false
 
 -- the names and pairs in a key, its canonical form, and whether it is the name of a target that is not known
-abbrev pub classified_of_spelled : List DeclaredEntry → Spelled → List Classified
+abbrev pub classified_of_spelled : List DeclaredEntry → KeyMeaning → List Classified
 classified_of_spelled ds (spelled.Condition p) = classified_in ds (condition_of p)
 classified_of_spelled ds (spelled.ByCargo m) = []
 classified_of_spelled ds (spelled.Refused e) = []
 
-abbrev pub print_spelled : Spelled → List ℕ
+abbrev pub print_spelled : KeyMeaning → List ℕ
 print_spelled (spelled.Condition p) = print_condition (condition_of p)
 print_spelled (spelled.ByCargo m) = []
 print_spelled (spelled.Refused e) = []
 
-abbrev pub IsUnknownSpelled : Spelled → Type 0
+abbrev pub IsUnknownSpelled : KeyMeaning → Type 0
 IsUnknownSpelled (spelled.Condition p) = IsUnknownTarget (condition_of p)
 IsUnknownSpelled (spelled.ByCargo m) = ⊥
 IsUnknownSpelled (spelled.Refused e) = ⊥

@@ -19,9 +19,9 @@ use Rattle.manifest_lints_findings.specs.declared.chosen.Choice.TheVariants as c
 use Rattle.manifest_lints_findings.specs.declared.codes.Code.{Code}
 use Rattle.manifest_lints_findings.specs.declared.codes.Code.TheVariants as code
 use Rattle.manifest_lints_findings.specs.declared.known_keys.KnownKey.{KnownKey}
-use Rattle.manifest_lints_findings.specs.declared.readings.Marked.{Marked}
-use Rattle.manifest_lints_findings.specs.declared.readings.Spelled.{Spelled}
-use Rattle.manifest_lints_findings.specs.declared.readings.Spelled.TheVariants as spelled
+use Rattle.manifest_lints_findings.specs.declared.readings.CargoReading.{CargoReading}
+use Rattle.manifest_lints_findings.specs.declared.readings.KeyMeaning.{KeyMeaning}
+use Rattle.manifest_lints_findings.specs.declared.readings.KeyMeaning.TheVariants as spelled
 use Rattle.manifest_lints_findings.specs.declared.wording.TheConstants.{MOST_SHOWN}
 
 -- ---- parts of messages
@@ -72,26 +72,26 @@ reason_of key e =
     cond (is_unclosed key) (codes "it begins with `cfg(` and does not end with `)`")
     (shown_cut (print_fault (fault_in e)))
 
-abbrev pub fault_text : List ℕ → Spelled → List ℕ
+abbrev pub fault_text : List ℕ → KeyMeaning → List ℕ
 fault_text key (spelled.Refused e) = reason_of key e
 fault_text key (spelled.Condition p) = []
 fault_text key (spelled.ByCargo m) = []
 
 -- Cargo's first warnings on the key, and the number of the others
-abbrev pub cargo_words : Marked → List ℕ
+abbrev pub cargo_words : CargoReading → List ℕ
 cargo_words m = shown_whole (join_by (λ s. string_bytes s) (codes " ") (take MOST_SHOWN m.warnings.items) ++ and_more m.count)
 
 -- the names that lose their raw mark, unless only Cargo accepts the key
 abbrev pub unmarked_text : List KeyPredicate → List ℕ
 unmarked_text fs = codes "Cargo reads " ++ (listing (chosen choice.Literal fs) ++ codes " without the raw mark")
 
-abbrev pub read_otherwise : Spelled → List KeyPredicate → List ℕ
+abbrev pub read_otherwise : KeyMeaning → List KeyPredicate → List ℕ
 read_otherwise (spelled.ByCargo m) fs = codes "Cargo accepts the key with a warning"
 read_otherwise (spelled.Condition p) fs = unmarked_text fs
 read_otherwise (spelled.Refused e) fs = unmarked_text fs
 
 -- Cargo's warnings on it, if only Cargo accepts the key
-abbrev pub cargo_noted : Spelled → List (List ℕ)
+abbrev pub cargo_noted : KeyMeaning → List (List ℕ)
 cargo_noted (spelled.ByCargo m) = cargo_words m ∷ []
 cargo_noted (spelled.Condition p) = []
 cargo_noted (spelled.Refused e) = []

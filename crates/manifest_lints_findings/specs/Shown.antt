@@ -13,11 +13,11 @@ use Rattle.manifest_lints_findings.specs.declared.codes.Code.{Code}
 use Rattle.manifest_lints_findings.specs.declared.codes.Code.TheVariants as code
 use Rattle.manifest_lints_findings.specs.declared.findings.Finding.{Finding}
 use Rattle.manifest_lints_findings.specs.declared.known_keys.KnownKey.{KnownKey}
-use Rattle.manifest_lints_findings.specs.declared.readings.Spelled.{Spelled}
-use Rattle.manifest_lints_findings.specs.declared.readings.Spelled.TheVariants as spelled
+use Rattle.manifest_lints_findings.specs.declared.readings.KeyMeaning.{KeyMeaning}
+use Rattle.manifest_lints_findings.specs.declared.readings.KeyMeaning.TheVariants as spelled
 
 -- for a rejected key, the span and the two lines are those of its error, and for any other key there are none
-abbrev pub IsShownBy : List ℕ → Spelled → Finding → Type 0
+abbrev pub IsShownBy : List ℕ → KeyMeaning → Finding → Type 0
 IsShownBy key (spelled.Refused e) f =
     IsSpanInKey key (orig_of e) (fault_in e) (span_in e) f.span
     × IsSnippetOfKey key (orig_of e) (fault_in e) (span_in e) f.snippet

@@ -8,13 +8,13 @@ use Rattle.toml.specs.Data.{Data, table, no_members}
 use Rattle.toml.specs.View.{view}
 use Rattle.manifests.specs.Entries.{Entry}
 use Rattle.manifest_lints_findings.specs.declared.readings.ReadKey.{ReadKey}
-use Rattle.manifest_lints_findings.specs.declared.readings.Spelled.{Spelled}
-use Rattle.manifest_lints_findings.specs.declared.readings.Spelled.TheVariants as spelled
+use Rattle.manifest_lints_findings.specs.declared.readings.KeyMeaning.{KeyMeaning}
+use Rattle.manifest_lints_findings.specs.declared.readings.KeyMeaning.TheVariants as spelled
 
 abbrev pub SpellsNothing : List ℕ → Type 0
 SpellsNothing text = (c : Condition) → IsConditionText text c → ⊥
 
-abbrev pub IsSpelledAs : List ℕ → Spelled → Type 0
+abbrev pub IsSpelledAs : List ℕ → KeyMeaning → Type 0
 IsSpelledAs text (spelled.Condition p) = IsConditionText text (condition_of p)
 IsSpelledAs text (spelled.ByCargo read) = SpellsNothing text
 IsSpelledAs text (spelled.Refused e) = SpellsNothing text

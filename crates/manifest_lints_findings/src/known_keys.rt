@@ -12,7 +12,7 @@ ghost use Rattle.manifest_lints_findings.specs.Known.{IsKnown, holds_alone, has_
 use crate::chosen::is_marked_literal;
 use crate::codes::Code;
 use crate::no_tables::no_tables;
-use crate::readings::{ReadKey, Spelled};
+use crate::readings::{KeyMeaning, ReadKey};
 use cargo_platform::{Platform, values_with_levels};
 use manifests::Declared;
 use predicate_classes::classes::{Category, is_unknown_target};
@@ -52,10 +52,10 @@ impl<'a> KnownKey<'a> {
     {
         let no_tables = no_tables_under(alloc, read)?;
         match &read.spelled {
-            Spelled::Condition(condition) => {
+            KeyMeaning::Condition(condition) => {
                 known_condition(alloc, read, place, no_tables, condition, declared)
             }
-            Spelled::ByCargo(_) | Spelled::Refused(_) => Ok(KnownKey {
+            KeyMeaning::ByCargo(_) | KeyMeaning::Refused(_) => Ok(KnownKey {
                 read,
                 place,
                 no_tables,
@@ -81,10 +81,10 @@ impl<'a> KnownKey<'a> {
         ensures { result ≡ holds_alone self.now code }
     {
         match code {
-            Code::Refused => matches!(self.read.spelled, Spelled::Refused(_)),
+            Code::Refused => matches!(self.read.spelled, KeyMeaning::Refused(_)),
             Code::NoTable => !self.no_tables.is_empty(),
             Code::ReadOtherwise => {
-                matches!(self.read.spelled, Spelled::ByCargo(_))
+                matches!(self.read.spelled, KeyMeaning::ByCargo(_))
                     || has_marked_literal(&self.predicates)
             }
             Code::Unsupported => has_category(&self.predicates, Category::Unsupported),
@@ -92,7 +92,7 @@ impl<'a> KnownKey<'a> {
             Code::UnknownFact => has_category(&self.predicates, Category::Mistaken),
             Code::Custom => has_category(&self.predicates, Category::Custom),
             Code::NotCanonical => {
-                matches!(self.read.spelled, Spelled::Condition(_))
+                matches!(self.read.spelled, KeyMeaning::Condition(_))
                     && self.canonical.as_str() != self.read.text
             }
             _ => false,
@@ -120,7 +120,7 @@ fn known_condition<'a>(
     declared: &Declared<'_>,
 ) -> Result<KnownKey<'a>, AllocError>
     ensures place { IfOk result (λ k. k.place ≡ place) }
-    ensures known { read.now.spelled ≡ Spelled.Condition condition.now
+    ensures known { read.now.spelled ≡ KeyMeaning.Condition condition.now
         → is_empty_list no_tables.items ≡ not (is_no_table (entry_read read.now).1)
         → IfOk result (λ k. IsKnown (declarations_of declared.now) read.now k) }
 {

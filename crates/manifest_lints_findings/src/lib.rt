@@ -23,7 +23,7 @@ mod wording;
 
 pub use codes::{CODES, Code, Level};
 pub use findings::{Finding, Report};
-pub use lints::{LINTS_BESIDE, Lint};
+pub use lints::{LINTS_NOT_ON_KEYS, Lint};
 pub use meant::{near, nearest_target};
 pub use notes_and_helps::Children;
 pub use places::{Site, WrongPlace, add_at_top, shown_table, wrong_places};

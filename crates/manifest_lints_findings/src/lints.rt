@@ -25,7 +25,7 @@ pub enum Lint {
 }
 
 /// The lints that are not on keys.
-pub const LINTS_BESIDE: [Lint; 6] = [
+pub const LINTS_NOT_ON_KEYS: [Lint; 6] = [
     Lint::Former,
     Lint::Misplaced,
     Lint::Underscored,
@@ -45,7 +45,7 @@ impl Lint {
                 return Some(lint);
             }
         }
-        for lint in &LINTS_BESIDE {
+        for lint in &LINTS_NOT_ON_KEYS {
             if lint.word() == name {
                 return Some(*lint);
             }

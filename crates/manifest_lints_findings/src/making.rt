@@ -14,7 +14,7 @@ use crate::known_keys::KnownKey;
 use crate::messages::message_of;
 use crate::notes_and_helps::children_of;
 use crate::pointing::pointed_by;
-use crate::readings::Spelled;
+use crate::readings::KeyMeaning;
 use crate::suggestions::{KnownFacts, suggestion_of};
 use std::alloc::{AllocError, Global};
 
@@ -76,7 +76,7 @@ pub fn finding_on(
         pointed: pointed_by(alloc, key, other, code)?,
     };
     match (code, &key.read.spelled) {
-        (Code::Refused, Spelled::Refused(error)) => Ok(Finding {
+        (Code::Refused, KeyMeaning::Refused(error)) => Ok(Finding {
             span: error.span_in(key.read.text),
             snippet: error.snippet_in(alloc, key.read.text)?,
             ..finding

@@ -9,7 +9,7 @@ ghost use Rattle.manifest_lints_findings.specs.Texts.{quoted_text};
 use crate::chosen::{Choice, chosen};
 use crate::codes::Code;
 use crate::known_keys::KnownKey;
-use crate::readings::Spelled;
+use crate::readings::KeyMeaning;
 use crate::wording::{both, joined, listed, quoted};
 use cargo_platform::{ParseError, shown_start};
 use known_targets::RUSTC_VERSION;
@@ -88,12 +88,12 @@ fn reason_of(alloc: Global, key: &str, error: &ParseError) -> Result<String, All
 }
 
 /// Returns the reason why a key is rejected.
-fn fault_of(alloc: Global, key: &str, spelled: &Spelled) -> Result<String, AllocError>
+fn fault_of(alloc: Global, key: &str, spelled: &KeyMeaning) -> Result<String, AllocError>
     ensures { IfOk result (λ s. string_bytes s ≡ fault_text key.now spelled.now) }
 {
     match spelled {
-        Spelled::Refused(error) => reason_of(alloc, key, error),
-        Spelled::Condition(_) | Spelled::ByCargo(_) => Ok(String::new(alloc)),
+        KeyMeaning::Refused(error) => reason_of(alloc, key, error),
+        KeyMeaning::Condition(_) | KeyMeaning::ByCargo(_) => Ok(String::new(alloc)),
     }
 }
 
@@ -120,8 +120,8 @@ fn read_otherwise_message(alloc: Global, key: &KnownKey<'_>) -> Result<String, A
     ensures { IfOk result (λ s. Shows Code.ReadOtherwise key.now (string_bytes s)) }
 {
     match &key.read.spelled {
-        Spelled::ByCargo(_) => String::from_str(alloc, "Cargo accepts the key with a warning"),
-        Spelled::Condition(_) | Spelled::Refused(_) => unmarked_message(alloc, key),
+        KeyMeaning::ByCargo(_) => String::from_str(alloc, "Cargo accepts the key with a warning"),
+        KeyMeaning::Condition(_) | KeyMeaning::Refused(_) => unmarked_message(alloc, key),
     }
 }
 

@@ -13,7 +13,7 @@ use crate::chosen::{Choice, chosen};
 use crate::codes::Code;
 use crate::known_keys::KnownKey;
 use crate::no_tables::meant_tables;
-use crate::readings::{Marked, Spelled};
+use crate::readings::{CargoReading, KeyMeaning};
 use crate::suggestions::{KnownFacts, instead_of};
 use crate::wording::{first_shown, joined, quoted, quoted_fact};
 use cargo_platform::{Cfg, CfgExpr, Platform, shown_text};
@@ -128,7 +128,7 @@ const OF_PROFILES: &str = "no profile selects dependencies";
 const PANICS: &str = "flags set `panic` to `abort`, `immediate-abort` or `unwind`";
 
 /// Returns the note on a key that only Cargo accepts: Cargo's warnings.
-fn by_cargo_note(alloc: Global, marked: &Marked) -> Result<String, AllocError>
+fn by_cargo_note(alloc: Global, marked: &CargoReading) -> Result<String, AllocError>
     ensures { IfOk result (λ s. Mentions (cargo_words marked.now ∷ []) (string_bytes s)) }
 {
     let warnings = joined(alloc, &marked.warnings, marked.count, " ")?;
@@ -137,15 +137,15 @@ fn by_cargo_note(alloc: Global, marked: &Marked) -> Result<String, AllocError>
 }
 
 /// Returns the notes on a key that Cargo reads otherwise.
-fn notes_on_reading(alloc: Global, spelled: &Spelled) -> Result<Vec<String>, AllocError>
+fn notes_on_reading(alloc: Global, spelled: &KeyMeaning) -> Result<Vec<String>, AllocError>
     ensures { IfOk result (λ notes. Mentions (cargo_noted spelled.now) (said notes.items)) }
 {
     match spelled {
-        Spelled::ByCargo(marked) => {
+        KeyMeaning::ByCargo(marked) => {
             let note = by_cargo_note(alloc, marked)?;
             only(alloc, note)
         }
-        Spelled::Condition(_) | Spelled::Refused(_) => Ok(Vec::new(alloc)),
+        KeyMeaning::Condition(_) | KeyMeaning::Refused(_) => Ok(Vec::new(alloc)),
     }
 }
 

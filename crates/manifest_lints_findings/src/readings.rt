@@ -14,7 +14,7 @@ use toml::Value;
 
 /// A key that is rejected here, as current Cargo reads it.
 #[derive(Drop)]
-pub struct Marked {
+pub struct CargoReading {
     /// Cargo's first warnings, each on one line.
     pub warnings: Vec<String>,
     /// The number of different warnings.
@@ -25,11 +25,11 @@ pub struct Marked {
 
 /// The meaning of a key.
 #[derive(Drop)]
-pub enum Spelled {
+pub enum KeyMeaning {
     /// The key is this condition.
     Condition(Platform),
     /// The key is rejected here, but current Cargo accepts it.
-    ByCargo(Marked),
+    ByCargo(CargoReading),
     /// The key is rejected with this error.
     Refused(ParseError),
 }
@@ -42,7 +42,7 @@ pub struct ReadKey<'a> {
     /// The value of the key, if the key is in a manifest.
     pub value: Option<&'a Value>,
     /// The meaning of the key.
-    pub spelled: Spelled,
+    pub spelled: KeyMeaning,
 }
 
 impl<'a> ReadKey<'a> {
@@ -60,29 +60,29 @@ impl<'a> ReadKey<'a> {
 
     /// Returns a key that is in no manifest, and has this condition.
     pub fn alone(text: &'a str, condition: Platform) -> ReadKey<'a>
-        ensures spelled { result.spelled ≡ Spelled.Condition condition }
+        ensures spelled { result.spelled ≡ KeyMeaning.Condition condition }
         ensures text { result.text.now ≡ text.now }
     {
         ReadKey {
             text,
             value: None,
-            spelled: Spelled::Condition(condition),
+            spelled: KeyMeaning::Condition(condition),
         }
     }
 }
 
 /// Parses a key.
-fn read_key(alloc: Global, key: &str) -> Result<Spelled, AllocError>
+fn read_key(alloc: Global, key: &str) -> Result<KeyMeaning, AllocError>
     ensures { IfOk result (IsSpelledAs key.now) }
 {
     let error = match Platform::from_str(alloc, key) {
-        Ok(platform) => return Ok(Spelled::Condition(platform)),
+        Ok(platform) => return Ok(KeyMeaning::Condition(platform)),
         Err(ReadError::Memory(refused)) => return Err(refused),
         Err(ReadError::Parse(error)) => error,
     };
     match read_by_cargo(alloc, key)? {
-        Some(marked) => Ok(Spelled::ByCargo(marked)),
-        None => Ok(Spelled::Refused(error)),
+        Some(marked) => Ok(KeyMeaning::ByCargo(marked)),
+        None => Ok(KeyMeaning::Refused(error)),
     }
 }
 
@@ -153,7 +153,7 @@ impl<'a> Marking<'a> {
 
 /// Reads a key that is rejected here as Cargo does, which takes `true` and `false` without a raw mark as the keys of
 /// pairs.
-fn read_by_cargo(alloc: Global, key: &str) -> Result<Option<Marked>, AllocError> {
+fn read_by_cargo(alloc: Global, key: &str) -> Result<Option<CargoReading>, AllocError> {
     let Some(text) = inside_cfg(key) else {
         return Ok(None);
     };
@@ -179,7 +179,7 @@ fn read_by_cargo(alloc: Global, key: &str) -> Result<Option<Marked>, AllocError>
 }
 
 /// Returns the key with raw marks, if that is a condition.
-fn accepted(alloc: Global, marking: Marking<'_>) -> Result<Option<Marked>, AllocError> {
+fn accepted(alloc: Global, marking: Marking<'_>) -> Result<Option<CargoReading>, AllocError> {
     let Marking {
         text,
         copied,
@@ -190,7 +190,7 @@ fn accepted(alloc: Global, marking: Marking<'_>) -> Result<Option<Marked>, Alloc
     key.push_str(text.get(copied..).unwrap_or(""))?;
     key.push_str(")")?;
     match Platform::from_str(alloc, key.as_str()) {
-        Ok(_platform) => Ok(Some(Marked {
+        Ok(_platform) => Ok(Some(CargoReading {
             warnings,
             count: pairs.len(),
             key,

@@ -8,7 +8,7 @@ use crate::codes::Code;
 use crate::known_keys::KnownKey;
 use crate::meant::{if_known, meant_value, near, nearest_target};
 use crate::meant_features::feature_instead_of;
-use crate::readings::{ReadKey, Spelled};
+use crate::readings::{KeyMeaning, ReadKey};
 use crate::repairing::repaired_key;
 use cargo_platform::{Cfg, CfgExpr, Platform, ReadError};
 use known_targets::{KnownFact, all_facts};
@@ -340,7 +340,7 @@ fn dotted_target(alloc: Global, key: &KnownKey<'_>) -> Result<Option<String>, Al
 /// Returns the target that a key names by `target = ".."` alone.
 fn named_target<'a>(key: &KnownKey<'a>) -> Option<&'a str> {
     match &key.read.spelled {
-        Spelled::Condition(Platform::Cfg(CfgExpr::Value(Cfg::KeyPair(name, value))))
+        KeyMeaning::Condition(Platform::Cfg(CfgExpr::Value(Cfg::KeyPair(name, value))))
             if name.as_str() == "target" => { Some(value.as_str()) }
         _ => None,
     }
@@ -452,7 +452,7 @@ fn text_instead(
 ) -> Result<Option<String>, AllocError> {
     match (code, &key.read.spelled) {
         (Code::Refused, _) => repaired_key(alloc, key.read.text),
-        (Code::ReadOtherwise, Spelled::ByCargo(marked)) => Ok(Some(marked.key.clone()?)),
+        (Code::ReadOtherwise, KeyMeaning::ByCargo(marked)) => Ok(Some(marked.key.clone()?)),
         (Code::UnknownTarget, _) => key_instead_of(alloc, key),
         (Code::UnknownFact, _) => repaired(alloc, known_facts, key),
         (Code::NotCanonical, _) => Ok(Some(key.canonical.clone()?)),

@@ -328,14 +328,14 @@ settled category.Mistaken = (λ e. cc, λ e. cc)
 settled category.Custom = (λ e. cc, λ e. cc)
 settled category.Declared = (λ e. cc, λ e. cc)
 
-pub stays : (is_told : Bool) (s : Category) → StaysOrIsDeclared is_told s
-stays is_told category.Rustcs = inl refl
-stays is_told category.Unsupported = inl refl
+pub stays : (declared : Bool) (s : Category) → StaysOrIsDeclared declared s
+stays declared category.Rustcs = inl refl
+stays declared category.Unsupported = inl refl
 stays true category.Mistaken = inr (refl, refl)
 stays false category.Mistaken = inl refl
 stays true category.Custom = inr (refl, refl)
 stays false category.Custom = inl refl
-stays is_told category.Declared = inl refl
+stays declared category.Declared = inl refl
 
-pub of_others : (is_told : Bool) → StaysRustcsOrCargos is_told
-of_others is_told = (refl, refl)
+pub of_others : (declared : Bool) → StaysRustcsOrCargos declared
+of_others declared = (refl, refl)

@@ -133,12 +133,12 @@ category_of (Alone n) =
 category_of (KeyPair k v) = category_of_pair k.name v (is_had table_keys (KeyPair k v))
 
 -- the category, given whether the name or pair is declared
-abbrev pub beside : Bool → Category → Category
-beside is_told category.Rustcs = category.Rustcs
-beside is_told category.Unsupported = category.Unsupported
-beside is_told category.Mistaken = cond is_told category.Declared category.Mistaken
-beside is_told category.Custom = cond is_told category.Declared category.Custom
-beside is_told category.Declared = category.Declared
+abbrev pub with_declaration : Bool → Category → Category
+with_declaration declared category.Rustcs = category.Rustcs
+with_declaration declared category.Unsupported = category.Unsupported
+with_declaration declared category.Mistaken = cond declared category.Declared category.Mistaken
+with_declaration declared category.Custom = cond declared category.Declared category.Custom
+with_declaration declared category.Declared = category.Declared
 
 abbrev pub category_in : Class → Category
 category_in class.Rustc = category.Rustcs
@@ -180,8 +180,8 @@ abbrev pub Classified : Type 0
 Classified = CfgValue × Category
 
 -- given the declarations
-abbrev pub classified_beside : List DeclaredEntry → CfgValue → Classified
-classified_beside ds c = (c, beside (is_declared ds c) (category_of c))
+abbrev pub classified_with_declarations : List DeclaredEntry → CfgValue → Classified
+classified_with_declarations ds c = (c, with_declaration (is_declared ds c) (category_of c))
 
 abbrev pub classified_of : KeyPredicate → Classified
 classified_of f = (value_of f.fact.now, category_in f.class)
@@ -190,7 +190,7 @@ abbrev pub classified_by : List KeyPredicate → List Classified
 classified_by fs = map classified_of fs
 
 abbrev pub classified_in : List DeclaredEntry → Condition → List Classified
-classified_in ds c = map (classified_beside ds) (condition_values c)
+classified_in ds c = map (classified_with_declarations ds) (condition_values c)
 
 -- one of them is of the category
 abbrev pub has_category : Category → List Classified → Bool

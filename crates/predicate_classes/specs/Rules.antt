@@ -9,7 +9,7 @@ use Rattle.known_targets.specs.Table.{table_keys}
 use Rattle.known_targets.specs.Listed.{is_had}
 use Rattle.predicate_classes.specs.Classes.{valued, flagged, plain_names, unstable_names, unstable_keys}
 use Rattle.predicate_classes.specs.Classes.{named_by_value, has_as_value, target_features, panics, is_near}
-use Rattle.predicate_classes.specs.Classes.{is_taken_for_rustcs, category_of, beside}
+use Rattle.predicate_classes.specs.Classes.{is_taken_for_rustcs, category_of, with_declaration}
 use Rattle.predicate_classes.specs.declared.classes.Category.{Category}
 use Rattle.predicate_classes.specs.declared.classes.Category.TheVariants as category
 
@@ -101,13 +101,13 @@ IsNoMistake c = IsTrue (is_had table_keys c) → (category_of c ≡ category.Rus
 
 -- a declared fact is neither mistaken nor custom
 abbrev pub IsSettled : Category → Type 0
-IsSettled s = beside true s ≢ category.Mistaken × beside true s ≢ category.Custom
+IsSettled s = with_declaration true s ≢ category.Mistaken × with_declaration true s ≢ category.Custom
 
 -- the category stays, or there is a declaration and it becomes declared
 abbrev pub StaysOrIsDeclared : Bool → Category → Type 0
-StaysOrIsDeclared is_told s = (beside is_told s ≡ s) ⊎ (IsTrue is_told × (beside is_told s ≡ category.Declared))
+StaysOrIsDeclared declared s = (with_declaration declared s ≡ s) ⊎ (IsTrue declared × (with_declaration declared s ≡ category.Declared))
 
 -- the categories of what rustc sets, and of what Cargo warns about, stay
 abbrev pub StaysRustcsOrCargos : Bool → Type 0
-StaysRustcsOrCargos is_told =
-    (beside is_told category.Rustcs ≡ category.Rustcs) × (beside is_told category.Unsupported ≡ category.Unsupported)
+StaysRustcsOrCargos declared =
+    (with_declaration declared category.Rustcs ≡ category.Rustcs) × (with_declaration declared category.Unsupported ≡ category.Unsupported)

@@ -11,7 +11,7 @@ ghost use Rattle.known_targets.specs.Rows.{plain};
 ghost use Rattle.known_targets.specs.Table.{table_keys};
 ghost use Rattle.predicate_classes.specs.Classes.{has_as_value, is_near_one, is_one_edit_from, category_of};
 ghost use Rattle.predicate_classes.specs.Classes.{category_in, category_of_feature, category_of_panic, category_of_pair};
-ghost use Rattle.predicate_classes.specs.Classes.{category_of_other, beside, is_category, is_open_category};
+ghost use Rattle.predicate_classes.specs.Classes.{category_of_other, with_declaration, is_category, is_open_category};
 ghost use Rattle.predicate_classes.specs.Classes.{is_word_for_rustcs, starts_like_key};
 ghost use Rattle.predicate_classes.specs.Classes.{IsUnknownTarget};
 
@@ -116,8 +116,8 @@ impl Class {
     }
 
     /// Returns the class of the name or pair, given whether the manifest declares it.
-    pub fn beside(self, is_declared: bool) -> Class
-        ensures { category_in result ≡ beside is_declared (category_in self) }
+    pub fn with_declaration(self, is_declared: bool) -> Class
+        ensures { category_in result ≡ with_declaration is_declared (category_in self) }
     {
         match self {
             Class::Unstable if is_declared => Class::Declared,

@@ -5,7 +5,7 @@ ghost use Rattle.std.specs.List.{list_any};
 ghost use Rattle.cargo_platform.specs.Trees.{value_of};
 ghost use Rattle.partial_facts.specs.Partly.{names_of};
 ghost use Rattle.manifests.specs.Declarations.{declarations_of};
-ghost use Rattle.predicate_classes.specs.Classes.{Classified, classified_of, classified_by, classified_beside, has_category};
+ghost use Rattle.predicate_classes.specs.Classes.{Classified, classified_of, classified_by, classified_with_declarations, has_category};
 ghost use Rattle.predicate_classes.specs.Classes.{flag_names, opened_by, is_category, category_in};
 
 use crate::classes::{Category, Class, class_of};
@@ -40,7 +40,7 @@ pub fn key_predicates<'a>(
     declared: &Declared<'_>,
 ) -> Result<Vec<KeyPredicate<'a>>, AllocError>
     ensures { IfOk result (λ predicates. classified_by predicates.items
-        ≡ map (λ c. classified_beside (declarations_of declared.now) (value_of c.now)) values.now) }
+        ≡ map (λ c. classified_with_declarations (declarations_of declared.now) (value_of c.now)) values.now) }
 {
     let mut predicates = Vec::new(alloc);
     let mut seen: BTreeSet<&'a Cfg> = BTreeSet::new(alloc);
@@ -62,9 +62,9 @@ fn key_predicate<'a>(
     is_first: bool,
     declared: &Declared<'_>,
 ) -> Result<KeyPredicate<'a>, AllocError>
-    ensures { IfOk result (λ f. classified_of f ≡ classified_beside (declarations_of declared.now) (value_of fact.now)) }
+    ensures { IfOk result (λ f. classified_of f ≡ classified_with_declarations (declarations_of declared.now) (value_of fact.now)) }
 {
-    let class = class_of(alloc, fact)?.beside(declared.declares(fact));
+    let class = class_of(alloc, fact)?.with_declaration(declared.declares(fact));
     Ok(KeyPredicate {
         fact,
         span,

@@ -32,8 +32,8 @@ pub fn what_targets_have_is_no_mistake()
 {}
 
 /// A declaration turns a mistaken or custom fact into a declared one, and changes nothing else.
-pub fn beside_declarations()
+pub fn with_declarations()
     ensures settled { (s : Category) → IsSettled s }
-    ensures stays { (is_told : Bool) (s : Category) → StaysOrIsDeclared is_told s }
-    ensures of_others { (is_told : Bool) → StaysRustcsOrCargos is_told }
+    ensures stays { (declared : Bool) (s : Category) → StaysOrIsDeclared declared s }
+    ensures of_others { (declared : Bool) → StaysRustcsOrCargos declared }
 {}

@@ -1,5 +1,5 @@
 use Rattle.predicate_classes.proofs.Rules.{settled, stays, of_others}
-use Rattle.predicate_classes.proofs.laws.beside_declarations.Goals as goal
+use Rattle.predicate_classes.proofs.laws.with_declarations.Goals as goal
 
 pub returns-clause-settled : goal.returns-clause-settled
 returns-clause-settled c = settled
