@@ -11,8 +11,8 @@ use Rattle.package_graphs.specs.Kinds.{is_followed}
 use Rattle.package_graphs.specs.declared.packages.Kind.{Kind}
 use Rattle.package_graphs.specs.declared.packages.Kind.TheVariants as kinds
 use Rattle.package_graphs.specs.declared.packages.Kinds.{Kinds}
-use Rattle.package_graphs.specs.declared.packages.Side.{Side}
-use Rattle.package_graphs.specs.declared.packages.Side.TheVariants.{Target, Host}
+use Rattle.package_graphs.specs.declared.sides.Side.{Side}
+use Rattle.package_graphs.specs.declared.sides.Side.TheVariants.{Target, Host}
 use Rattle.cargo_features.specs.Deriving.{given, follows}
 use Rattle.cargo_features.proofs.Following.{held_through}
 use Rattle.cargo_features.specs.Claims.{holds_at}

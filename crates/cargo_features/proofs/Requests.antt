@@ -9,8 +9,8 @@ use Rattle.std.proofs.lemmas.List.Elements.{Contains-append_cases, Contains-appe
 use Rattle.package_graphs.proofs.Chosen.{contains_flat_map, in_flat_map}
 use Rattle.package_graphs.specs.Kinds.{is_followed}
 use Rattle.package_graphs.specs.Packages.{is_of_host, side}
-use Rattle.package_graphs.specs.declared.packages.Side.{Side}
-use Rattle.package_graphs.specs.declared.packages.Side.TheVariants.{Target, Host}
+use Rattle.package_graphs.specs.declared.sides.Side.{Side}
+use Rattle.package_graphs.specs.declared.sides.Side.TheVariants.{Target, Host}
 use Rattle.cargo_features.specs.Deriving.{given, follows}
 use Rattle.cargo_features.proofs.Following.{held_through}
 use Rattle.cargo_features.specs.Requests.{asking, AsksMore, AskMore}

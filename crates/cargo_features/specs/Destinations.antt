@@ -5,8 +5,8 @@ use Rattle.known_targets.specs.declared.target_set.TargetSet.{TargetSet}
 use Rattle.package_graphs.specs.Packages.{is_of_host, side}
 use Rattle.package_graphs.specs.declared.packages.Kind.{Kind}
 use Rattle.package_graphs.specs.declared.packages.Kind.TheVariants as kinds
-use Rattle.package_graphs.specs.declared.packages.Side.{Side}
-use Rattle.package_graphs.specs.declared.packages.Side.TheVariants.{Target, Host}
+use Rattle.package_graphs.specs.declared.sides.Side.{Side}
+use Rattle.package_graphs.specs.declared.sides.Side.TheVariants.{Target, Host}
 use Rattle.cargo_features.specs.declared.build.Build.{Build}
 use Rattle.cargo_features.specs.declared.build.Destination.{Destination}
 use Rattle.cargo_features.specs.declared.claims.Condition.{Condition}

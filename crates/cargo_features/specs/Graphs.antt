@@ -7,7 +7,7 @@ use Rattle.package_graphs.specs.declared.packages.Package as units
 use Rattle.cargo_features.specs.Destinations.{is_macro}
 use Rattle.known_targets.specs.declared.known.KnownTarget.{KnownTarget}
 use Rattle.package_graphs.specs.declared.packages.Kinds.{Kinds}
-use Rattle.package_graphs.specs.declared.packages.Side.TheVariants.{Target}
+use Rattle.package_graphs.specs.declared.sides.Side.TheVariants.{Target}
 use Rattle.cargo_features.specs.declared.build.Build.{Build}
 use Rattle.cargo_features.specs.declared.claims.Claim.{Claim}
 use Rattle.cargo_features.specs.declared.claims.Claim.TheVariants as claim

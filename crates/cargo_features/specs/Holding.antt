@@ -1,7 +1,7 @@
 -- The claims about packages that hold on each target.
 use Rattle.std.specs.Prelude.{◌≡◌, ◌⊎◌, ℕ, Bool, true, IsTrue, List, [], map, length, nat_lt, Contains}
 use Rattle.std.specs.List.{slice_index_or}
-use Rattle.package_graphs.specs.declared.packages.Side.TheVariants.{Target, Host}
+use Rattle.package_graphs.specs.declared.sides.Side.TheVariants.{Target, Host}
 use Rattle.cargo_features.specs.Deriving.{Follows}
 use Rattle.cargo_features.specs.Claims.{holds_at}
 use Rattle.cargo_features.specs.Steps.{all_steps}

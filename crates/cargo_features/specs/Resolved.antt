@@ -1,7 +1,7 @@
 -- The results for a build.
 use Rattle.std.specs.Prelude.{◌≡◌, ◌&&◌, ℕ, Bool, IsTrue, List, Some, slice_get}
 use Rattle.package_graphs.specs.Kinds.{is_followed}
-use Rattle.package_graphs.specs.declared.packages.Side.{Side}
+use Rattle.package_graphs.specs.declared.sides.Side.{Side}
 use Rattle.cargo_features.specs.Claims.{holds_at}
 use Rattle.cargo_features.specs.Steps.{gate}
 use Rattle.cargo_features.specs.Destinations.{destination, feature_side}

@@ -4,8 +4,8 @@
 use Rattle.std.specs.Prelude.{ℕ, zero, suc, ◌+◌, Bool, true, false, not, ◌&&◌, cond, List, [], ◌∷◌, ◌++◌, Option}
 use Rattle.std.specs.Prelude.{Some, None, flat_map, slice_get}
 use Rattle.package_graphs.specs.Kinds.{is_followed}
-use Rattle.package_graphs.specs.declared.packages.Side.{Side}
-use Rattle.package_graphs.specs.declared.packages.Side.TheVariants.{Target, Host}
+use Rattle.package_graphs.specs.declared.sides.Side.{Side}
+use Rattle.package_graphs.specs.declared.sides.Side.TheVariants.{Target, Host}
 use Rattle.cargo_features.specs.Destinations.{destination, feature_destination, feature_side, is_counted, begins_on}
 use Rattle.cargo_features.specs.declared.build.Build.{Build}
 use Rattle.cargo_features.specs.declared.build.Destination.{Destination}

@@ -12,8 +12,8 @@ use Rattle.package_graphs.specs.declared.packages.Kind.TheVariants.{Normal}
 use Rattle.package_graphs.specs.declared.packages.Kinds.{Kinds}
 use Rattle.package_graphs.specs.declared.packages.Dependency.{Dependency}
 use Rattle.package_graphs.specs.declared.packages.Package.{Package}
-use Rattle.package_graphs.specs.declared.packages.Side.{Side}
-use Rattle.package_graphs.specs.declared.packages.Side.TheVariants.{Target}
+use Rattle.package_graphs.specs.declared.sides.Side.{Side}
+use Rattle.package_graphs.specs.declared.sides.Side.TheVariants.{Target}
 use Rattle.package_graphs.proofs.Reached.{held_along}
 
 module _ (packages : List Package) (kinds : Kinds) (k : ℕ) where

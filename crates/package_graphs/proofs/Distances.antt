@@ -21,8 +21,8 @@ use Rattle.package_graphs.specs.declared.paths.PathQuery.{PathQuery}
 use Rattle.package_graphs.specs.declared.paths.PathTo.{PathTo}
 use Rattle.package_graphs.specs.declared.paths.Step.{Step}
 use Rattle.package_graphs.specs.declared.paths.Search.{Search}
-use Rattle.package_graphs.specs.declared.packages.Side.{Side}
-use Rattle.package_graphs.specs.declared.packages.Side.TheVariants.{Target, Host}
+use Rattle.package_graphs.specs.declared.sides.Side.{Side}
+use Rattle.package_graphs.specs.declared.sides.Side.TheVariants.{Target, Host}
 use Rattle.package_graphs.proofs.Sided.{has_package}
 
 pub contains_got : {X : Type 0} (xs : List X) (i : ℕ) (x : X) → slice_get xs i ≡ Some x → Contains xs x
@@ -75,7 +75,7 @@ module _ (s : Search) (ds : List ℕ) (near : (n : Sided) → n.0 < length s.pac
   unreached p target host inside steps (Host, path) = unreached_on (p, Host) host inside steps path
 
   pub none_lead : (side : Option Side) (p : ℕ) → IsFarAway ds side p → p < length s.packages.now
-      → IsUnreached s.packages.now s.question.kinds s.question.host (place s.at) side p
+      → IsUnreached s.packages.now s.traversal.kinds s.traversal.host (place s.at) side p
   none_lead None p far inside = unreached p far.0 far.1 inside
   none_lead (Some side) p far inside = unreached_on (p, side) far inside
 

@@ -11,8 +11,8 @@ use Rattle.package_graphs.specs.declared.package_sets.PackageSets.{PackageSets}
 use Rattle.package_graphs.specs.declared.packages.Dependency.{Dependency}
 use Rattle.package_graphs.specs.declared.packages.Kinds.{Kinds}
 use Rattle.package_graphs.specs.declared.packages.Package.{Package}
-use Rattle.package_graphs.specs.declared.packages.Side.{Side}
-use Rattle.package_graphs.specs.declared.packages.Side.TheVariants.{Target, Host}
+use Rattle.package_graphs.specs.declared.sides.Side.{Side}
+use Rattle.package_graphs.specs.declared.sides.Side.TheVariants.{Target, Host}
 
 pub same_from : (s t : Side) → is_same s t ≡ true → s ≡ t
 same_from Target Target h = refl

@@ -13,8 +13,8 @@ use Rattle.package_graphs.specs.declared.packages.Kind.{Kind}
 use Rattle.package_graphs.specs.declared.packages.Kind.TheVariants.{Normal, Build, Dev}
 use Rattle.package_graphs.specs.declared.packages.Kinds.{Kinds}
 use Rattle.package_graphs.specs.declared.packages.Package.{Package}
-use Rattle.package_graphs.specs.declared.packages.Side.{Side}
-use Rattle.package_graphs.specs.declared.packages.Side.TheVariants.{Target, Host}
+use Rattle.package_graphs.specs.declared.sides.Side.{Side}
+use Rattle.package_graphs.specs.declared.sides.Side.TheVariants.{Target, Host}
 use Rattle.package_graphs.proofs.Reached.{held_along}
 
 -- ---- for the host

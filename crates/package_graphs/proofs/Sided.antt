@@ -18,9 +18,9 @@ use Rattle.package_graphs.specs.Inside.Numbered.{holds_by, edge_of, edges_of, nu
 use Rattle.package_graphs.specs.declared.graph.Edge.{Edge}
 use Rattle.package_graphs.specs.declared.packages.Dependency.{Dependency}
 use Rattle.package_graphs.specs.declared.packages.Package.{Package}
-use Rattle.package_graphs.specs.declared.packages.Side.{Side}
-use Rattle.package_graphs.specs.declared.packages.Side.TheVariants.{Target, Host}
-use Rattle.package_graphs.specs.declared.sides.Question.{Question}
+use Rattle.package_graphs.specs.declared.sides.Side.{Side}
+use Rattle.package_graphs.specs.declared.sides.Side.TheVariants.{Target, Host}
+use Rattle.package_graphs.specs.declared.two_sided_graph.TraversalQuery.{TraversalQuery}
 use Rattle.package_graphs.proofs.Chosen.{contains_flat_map, in_flat_map, contains_if, in_if}
 use Rattle.package_graphs.proofs.Reached.{held_along}
 
@@ -30,12 +30,12 @@ two_on : (p : ℕ) (from : Side) → node_of (suc p) from ≡ suc (suc (node_of 
 two_on p Target = omega arith
 two_on p Host = omega arith
 
-pub length_numbered : (q : Question) (packages units : List Package)
+pub length_numbered : (q : TraversalQuery) (packages units : List Package)
     → length (numbered q packages units) ≡ 2 * length units
 length_numbered q packages [] = refl
 length_numbered q packages (u ∷ us) = let before = length_numbered q packages us in omega (arith, before)
 
-pub edges_of_node : (q : Question) (packages units : List Package) (p : ℕ) (from : Side)
+pub edges_of_node : (q : TraversalQuery) (packages units : List Package) (p : ℕ) (from : Side)
     → get_or (numbered q packages units) (node_of p from) []
     ≡ flat_map (edges_of q packages (is_root units p) from) (dependencies units p)
 edges_of_node q packages [] p from = refl
@@ -91,7 +91,7 @@ holds_is (Some host) always never from d k all none =
 
 -- ---- both ways
 
-module _ (q : Question) (packages : List Package) (k : ℕ) (roots : List ℕ)
+module _ (q : TraversalQuery) (packages : List Package) (k : ℕ) (roots : List ℕ)
     (all : is_member q.always k ≡ true) (none : is_member q.never k ≡ false)
     (firsts : AreFirst q packages (length packages) roots) where
   abbrev Graph : Edges

@@ -7,7 +7,7 @@ use Rattle.package_graphs.specs.Packages.{is_root, is_macro, is_on, evaluated_at
 use Rattle.package_graphs.specs.declared.packages.Kinds.{Kinds}
 use Rattle.package_graphs.specs.declared.packages.Dependency.{Dependency}
 use Rattle.package_graphs.specs.declared.packages.Package.{Package}
-use Rattle.package_graphs.specs.declared.packages.Side.{Side}
+use Rattle.package_graphs.specs.declared.sides.Side.{Side}
 use Rattle.package_graphs.specs.declared.package_sets.PackageSets.{PackageSets}
 
 -- the package is in the build for one side on the target k, and from there the dependency is followed and its condition

@@ -12,8 +12,8 @@ use Rattle.package_graphs.specs.declared.packages.Kind.TheVariants.{Normal, Buil
 use Rattle.package_graphs.specs.declared.packages.Kinds.{Kinds}
 use Rattle.package_graphs.specs.declared.packages.Dependency.{Dependency}
 use Rattle.package_graphs.specs.declared.packages.Package.{Package}
-use Rattle.package_graphs.specs.declared.packages.Side.{Side}
-use Rattle.package_graphs.specs.declared.packages.Side.TheVariants.{Target, Host}
+use Rattle.package_graphs.specs.declared.sides.Side.{Side}
+use Rattle.package_graphs.specs.declared.sides.Side.TheVariants.{Target, Host}
 use Rattle.package_graphs.specs.declared.package_sets.PackageSets.{PackageSets}
 
 -- types, as laws and callers name them

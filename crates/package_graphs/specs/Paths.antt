@@ -8,7 +8,7 @@ use Rattle.package_graphs.specs.Packages.{is_root, is_macro, dependencies, Sided
 use Rattle.package_graphs.specs.declared.packages.Kinds.{Kinds}
 use Rattle.package_graphs.specs.declared.packages.Dependency.{Dependency}
 use Rattle.package_graphs.specs.declared.packages.Package.{Package}
-use Rattle.package_graphs.specs.declared.packages.Side.{Side}
+use Rattle.package_graphs.specs.declared.sides.Side.{Side}
 use Rattle.package_graphs.specs.declared.paths.PathQuery.{PathQuery}
 use Rattle.package_graphs.specs.declared.paths.PathTo.{PathTo}
 use Rattle.package_graphs.specs.declared.paths.Step.{Step}

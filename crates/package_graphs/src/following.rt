@@ -5,11 +5,12 @@ ghost use Rattle.known_targets.specs.Sets.{is_member};
 ghost use Rattle.known_targets.specs.declared.table.TheConstants.{COUNT};
 ghost use Rattle.package_graphs.specs.Packages.{is_root, is_macro, is_on, is_same, evaluated_at, side_after};
 ghost use Rattle.package_graphs.specs.Following.{IsFollowedAt, IsFollowedTo};
-ghost use Rattle.package_graphs.specs.Inside.Numbered.{IsQuestion};
+ghost use Rattle.package_graphs.specs.Inside.Numbered.{IsTraversalQuery};
 
 use crate::package_sets::PackageSets;
-use crate::packages::{Dependency, Kinds, Package, Side};
-use crate::sides::Question;
+use crate::packages::{Dependency, Kinds, Package};
+use crate::sides::Side;
+use crate::two_sided_graph::TraversalQuery;
 use known_targets::{KnownTarget, TargetSet};
 
 impl PackageSets {
@@ -32,9 +33,9 @@ impl PackageSets {
         if !kinds.follow(is_root(packages, from), dependency.kind) {
             return TargetSet::none();
         }
-        let question = Question::new(kinds, host);
-        let target = self.along(&question, from, Side::Target, dependency);
-        target.union(self.along(&question, from, Side::Host, dependency))
+        let traversal = TraversalQuery::new(kinds, host);
+        let target = self.along(&traversal, from, Side::Target, dependency);
+        target.union(self.along(&traversal, from, Side::Host, dependency))
     }
 
     /// Returns the targets on which a dependency of the package at index `from` is followed to a package that is built
@@ -55,10 +56,10 @@ impl PackageSets {
         if !kinds.follow(is_root(packages, from), dependency.kind) {
             return TargetSet::none();
         }
-        let question = Question::new(kinds, host);
+        let traversal = TraversalQuery::new(kinds, host);
         let is_macro = is_macro(packages, dependency.to);
-        let target = self.along_to(&question, from, Side::Target, dependency, is_macro, to);
-        target.union(self.along_to(&question, from, Side::Host, dependency, is_macro, to))
+        let target = self.along_to(&traversal, from, Side::Target, dependency, is_macro, to);
+        target.union(self.along_to(&traversal, from, Side::Host, dependency, is_macro, to))
     }
 
     /// Returns the targets on which the package is in the build for the side `on`, and the condition of the dependency
@@ -66,20 +67,20 @@ impl PackageSets {
     /// `to`.
     fn along_to(
         &self,
-        question: &Question,
+        traversal: &TraversalQuery,
         from: usize,
         on: Side,
         dependency: &Dependency,
         is_macro: bool,
         to: Side,
     ) -> TargetSet
-        requires { IsQuestion question.now }
+        requires { IsTraversalQuery traversal.now }
         ensures { (k : ℕ) → k < COUNT → is_member result k
             ≡ (is_same (side_after on dependency.now.kind is_macro) to && (is_on self.now from on k
-            && is_member dependency.now.holds (evaluated_at question.now.host k on dependency.now.kind))) }
+            && is_member dependency.now.holds (evaluated_at traversal.now.host k on dependency.now.kind))) }
     {
         if on.after(dependency.kind, is_macro).is_same(to) {
-            self.along(question, from, on, dependency)
+            self.along(traversal, from, on, dependency)
         } else {
             TargetSet::none()
         }
@@ -89,17 +90,17 @@ impl PackageSets {
     /// true from there.
     fn along(
         &self,
-        question: &Question,
+        traversal: &TraversalQuery,
         from: usize,
         side: Side,
         dependency: &Dependency,
     ) -> TargetSet
-        requires { IsQuestion question.now }
+        requires { IsTraversalQuery traversal.now }
         ensures { (k : ℕ) → k < COUNT → is_member result k
             ≡ (is_on self.now from side k
-            && is_member dependency.now.holds (evaluated_at question.now.host k side dependency.now.kind)) }
+            && is_member dependency.now.holds (evaluated_at traversal.now.host k side dependency.now.kind)) }
     {
-        let holds = question.holds_by(side, dependency);
+        let holds = traversal.holds_by(side, dependency);
         self.on(from, side).intersection(holds)
     }
 }

@@ -10,9 +10,11 @@ mod paths;
 mod presence;
 mod queue;
 mod sides;
+mod two_sided_graph;
 
 pub use graph::{Edge, Graph};
 pub use package_sets::{PackageSets, present_packages};
-pub use packages::{Dependency, Kind, Kinds, Package, Side};
+pub use packages::{Dependency, Kind, Kinds, Package};
 pub use paths::{PathQuery, PathTo, Step, shortest_path, shortest_path_on, shortest_paths};
 pub use presence::present;
+pub use sides::Side;

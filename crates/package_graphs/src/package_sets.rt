@@ -5,9 +5,10 @@ ghost use Rattle.known_targets.specs.Sets.{is_member};
 ghost use Rattle.known_targets.specs.declared.table.TheConstants.{COUNT};
 ghost use Rattle.package_graphs.specs.Packages.{Sided, IsThere, IsThereOn, is_on, is_at};
 
-use crate::packages::{Kinds, Package, Side};
+use crate::packages::{Kinds, Package};
 use crate::presence::present;
-use crate::sides::{Question, node_of};
+use crate::sides::Side;
+use crate::two_sided_graph::{TraversalQuery, node_of};
 use known_targets::{KnownTarget, TargetSet};
 use std::alloc::{AllocError, Global};
 
@@ -63,9 +64,9 @@ pub fn present_packages(
     ensures without_host { host ≡ None → IfOk result (λ sets. (p k : ℕ) → p < length packages.now → k < COUNT
         → IsTrue (is_at sets p k) ↔ IsThere packages.now kinds k p) }
 {
-    let question = Question::new(kinds, host);
-    let graph = question.graph(alloc, packages)?;
-    let roots = question.roots(alloc, packages)?;
+    let traversal = TraversalQuery::new(kinds, host);
+    let graph = traversal.graph(alloc, packages)?;
+    let roots = traversal.roots(alloc, packages)?;
     Ok(PackageSets {
         sets: present(alloc, &graph, &roots)?,
     })

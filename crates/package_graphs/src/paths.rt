@@ -5,13 +5,14 @@ ghost use Rattle.known_targets.specs.Sets.{place};
 ghost use Rattle.package_graphs.specs.Packages.{Sided, StartsOn, dependencies};
 ghost use Rattle.package_graphs.specs.Paths.{Steps, IsShortest, IsShortestOn, IsShortestTo};
 ghost use Rattle.package_graphs.specs.Paths.{IsUnreached, AreShortestOf};
-ghost use Rattle.package_graphs.specs.Inside.Numbered.{IsQuestion};
+ghost use Rattle.package_graphs.specs.Inside.Numbered.{IsTraversalQuery};
 ghost use Rattle.package_graphs.specs.Inside.Searching.{LeadsAlong, IsStepOf, IsPathOf, Leads, distance, IsWithin};
 ghost use Rattle.package_graphs.specs.Inside.Searching.{IsNear, AreNear, IsFarAway};
 
 use crate::following::is_root;
-use crate::packages::{Dependency, Kinds, Package, Side};
-use crate::sides::{Question, node_of};
+use crate::packages::{Dependency, Kinds, Package};
+use crate::sides::Side;
+use crate::two_sided_graph::{TraversalQuery, node_of};
 use known_targets::KnownTarget;
 use std::alloc::{AllocError, Global};
 
@@ -40,7 +41,7 @@ struct Spread {
 /// A search among packages on one target.
 #[derive(Clone, Copy)]
 struct Search<'a> {
-    question: Question,
+    traversal: TraversalQuery,
     packages: &'a [Package],
     at: KnownTarget,
 }
@@ -65,7 +66,7 @@ pub fn shortest_path(
         (to < length packages.now → IsUnreached packages.now kinds host (place at) None to)) }
 {
     let search = Search {
-        question: Question::new(kinds, host),
+        traversal: TraversalQuery::new(kinds, host),
         packages,
         at,
     };
@@ -94,7 +95,7 @@ pub fn shortest_path_on(
         (to.0 < length packages.now → IsUnreached packages.now kinds host (place at) (Some to.1) to.0)) }
 {
     let search = Search {
-        question: Question::new(kinds, host),
+        traversal: TraversalQuery::new(kinds, host),
         packages,
         at,
     };
@@ -137,7 +138,7 @@ pub fn shortest_paths(
     ensures { IfOk result (λ paths. AreShortestOf packages.now query to.now paths.items) }
 {
     let search = Search {
-        question: Question::new(query.kinds, query.host),
+        traversal: TraversalQuery::new(query.kinds, query.host),
         packages,
         at: query.at,
     };
@@ -204,7 +205,7 @@ impl<'a> Search<'a> {
     /// Returns where a dependency leads, or `None` if it is not followed, its condition is false, or it leads to no
     /// package.
     fn step_along(&self, from: Place, dependency: &Dependency) -> Option<Place>
-        requires { IsQuestion self.now.question }
+        requires { IsTraversalQuery self.now.traversal }
         ensures leads { IfSome result (λ n. LeadsAlong self.now dependency.now from n) }
         ensures none { IfNone result ((n : Sided) → n.0 < length self.now.packages.now
             → LeadsAlong self.now dependency.now from n → ⊥) }
@@ -216,14 +217,14 @@ impl<'a> Search<'a> {
         if dependency.to >= self.packages.len() {
             return None;
         }
-        let question = &self.question;
-        if !question
+        let traversal = &self.traversal;
+        if !traversal
             .kinds
             .follow(is_root(self.packages, index), dependency.kind)
         {
             return None;
         }
-        if !question.holds_by(side, dependency).contains(self.at) {
+        if !traversal.holds_by(side, dependency).contains(self.at) {
             return None;
         }
         let is_macro = self.packages[dependency.to].is_macro;
@@ -242,7 +243,7 @@ impl<'a> Search<'a> {
 
     /// Visits all places that are reached from the roots, nearest first.
     fn spread(&self, alloc: Global) -> Result<Spread, AllocError>
-        requires { IsQuestion self.now.question }
+        requires { IsTraversalQuery self.now.traversal }
     {
         let count = self.packages.len();
         let mut spread = Spread {
@@ -272,7 +273,7 @@ impl<'a> Search<'a> {
 
     /// Visits the places that the dependencies of a package lead to.
     fn go_on(&self, place: Place, spread: &mut Spread) -> Result<(), AllocError>
-        requires { IsQuestion self.now.question }
+        requires { IsTraversalQuery self.now.traversal }
     {
         let (index, side) = place;
         if index >= self.packages.len() {
@@ -304,12 +305,12 @@ impl<'a> Search<'a> {
         side: Option<Side>,
         to: usize,
     ) -> Result<Option<Vec<Step>>, AllocError>
-        requires question { IsQuestion self.now.question }
+        requires traversal { IsTraversalQuery self.now.traversal }
         requires near { AreNear self.now spread.now.distances.items }
         ensures shortest { IfOk result (λ found. IfSome found (λ steps. IsShortestTo self.now.packages.now
-            self.now.question.kinds self.now.question.host (place self.now.at) side steps.items to)) }
+            self.now.traversal.kinds self.now.traversal.host (place self.now.at) side steps.items to)) }
         ensures none { IfOk result (λ found. IfNone found (to < length self.now.packages.now
-            → IsUnreached self.now.packages.now self.now.question.kinds self.now.question.host (place self.now.at)
+            → IsUnreached self.now.packages.now self.now.traversal.kinds self.now.traversal.host (place self.now.at)
             side to)) }
     {
         if to >= self.packages.len() {
@@ -327,7 +328,7 @@ impl<'a> Search<'a> {
                 Ok(Some(steps))
             }
             None => {
-                let nearest = spread.nearest_side(to, self.question.host);
+                let nearest = spread.nearest_side(to, self.traversal.host);
                 let steps = spread.steps_to(alloc, (to, nearest))?;
                 if !self.is_shortest(&spread.distances, &steps, to) {
                     return Err(AllocError);
@@ -339,7 +340,7 @@ impl<'a> Search<'a> {
 
     /// Returns whether the steps lead from a root to the package, and no fewer steps do.
     fn is_shortest(&self, distances: &[usize], steps: &[Step], to: usize) -> bool
-        requires question { IsQuestion self.now.question }
+        requires traversal { IsTraversalQuery self.now.traversal }
         requires near { AreNear self.now distances.now }
         ensures path { IsTrue result → Leads self.now steps.now to }
         ensures shortest { IsTrue result → (others : Steps) → Leads self.now others to
@@ -350,7 +351,7 @@ impl<'a> Search<'a> {
 
     /// Returns whether the steps lead from a root to the package on this side, and no fewer steps do.
     fn is_shortest_on(&self, distances: &[usize], steps: &[Step], to: Place) -> bool
-        requires question { IsQuestion self.now.question }
+        requires traversal { IsTraversalQuery self.now.traversal }
         requires near { AreNear self.now distances.now }
         ensures path { IsTrue result → IsPathOf self.now steps.now to }
         ensures shortest { IsTrue result → (others : Steps) → IsPathOf self.now others to
@@ -361,7 +362,7 @@ impl<'a> Search<'a> {
 
     /// Returns whether the steps lead from a root to the package.
     fn leads_to(&self, steps: &[Step], to: usize) -> bool
-        requires { IsQuestion self.now.question }
+        requires { IsTraversalQuery self.now.traversal }
         ensures { IsTrue result → Leads self.now steps.now to }
     {
         match self.end_of(steps, to) {
@@ -372,7 +373,7 @@ impl<'a> Search<'a> {
 
     /// Returns whether the steps lead from a root to the package on this side.
     fn leads_on(&self, steps: &[Step], to: Place) -> bool
-        requires { IsQuestion self.now.question }
+        requires { IsTraversalQuery self.now.traversal }
         ensures { IsTrue result → IsPathOf self.now steps.now to }
     {
         let (index, side) = to;
@@ -384,7 +385,7 @@ impl<'a> Search<'a> {
 
     /// Returns where the steps lead from a root. Without steps, the package at index `to` has to be a root.
     fn end_of(&self, steps: &[Step], to: usize) -> Option<Place>
-        requires { IsQuestion self.now.question }
+        requires { IsTraversalQuery self.now.traversal }
         ensures { IfSome result (λ n. IsPathOf self.now steps.now n) }
     {
         let first = match steps.first() {
@@ -400,7 +401,7 @@ impl<'a> Search<'a> {
 
     /// Returns where a step from a place leads.
     fn go(&self, place: Place, step: Step) -> Option<Place>
-        requires { IsQuestion self.now.question }
+        requires { IsTraversalQuery self.now.traversal }
         ensures { IfSome result (λ n. IsStepOf self.now step place n) }
     {
         let (index, _) = place;
@@ -442,7 +443,7 @@ impl<'a> Search<'a> {
 
     /// Returns whether each place is at most one step farther than those before it.
     fn are_all_near(&self, distances: &[usize]) -> bool
-        requires { IsQuestion self.now.question }
+        requires { IsTraversalQuery self.now.traversal }
         ensures { IsTrue result → AreNear self.now distances.now }
     {
         'packages: for i in 0..self.packages.len() {
@@ -459,7 +460,7 @@ impl<'a> Search<'a> {
     /// Returns whether the place has the distance 0 if it is a root, and each place that its dependencies lead to is at
     /// most one step farther, and reached if the place is.
     fn are_near(&self, distances: &[usize], place: Place) -> bool
-        requires { IsQuestion self.now.question }
+        requires { IsTraversalQuery self.now.traversal }
         ensures { IsTrue result → IsNear self.now distances.now place }
     {
         let (index, side) = place;
@@ -488,7 +489,7 @@ impl<'a> Search<'a> {
         dependency: &Dependency,
         most: usize,
     ) -> bool
-        requires { IsQuestion self.now.question }
+        requires { IsTraversalQuery self.now.traversal }
         ensures { IsTrue result → IsWithin self.now distances.now place most dependency.now }
     {
         match self.step_along(place, dependency) {

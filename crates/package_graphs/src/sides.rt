@@ -1,129 +1,59 @@
-//! The graph of packages on both sides. Each package has a node for the target, and one for the host.
+//! The sides for which packages are built: the target, and the host on which the build runs.
 
-ghost use Rattle.std.specs.Prelude.{◌≡◌, ◌<◌, ◌^◌, IfOk, length};
-ghost use Rattle.known_targets.specs.Sets.{is_member};
-ghost use Rattle.package_graphs.specs.Graphs.{edge_lists};
-ghost use Rattle.package_graphs.specs.Kinds.{is_followed};
-ghost use Rattle.package_graphs.specs.Packages.{node_of, side};
-ghost use Rattle.package_graphs.specs.Inside.Numbered.{holds_by, edge_of, edges_on, numbered, AreFirst, IsQuestion};
+ghost use Rattle.std.specs.Prelude.{◌≡◌};
+ghost use Rattle.package_graphs.specs.Packages.{is_of_host, is_same, side, side_after};
 
-use crate::graph::{Edge, Graph};
-use crate::packages::{Dependency, Kinds, Package, Side};
-use known_targets::{KnownTarget, TargetSet};
-use std::alloc::{AllocError, Global};
+use crate::packages::Kind;
 
-/// The dependency kinds and the host of a query.
+/// The side for which a package is built.
 #[derive(Clone, Copy, Drop)]
-pub struct Question {
-    pub kinds: Kinds,
-    pub host: Option<KnownTarget>,
-    /// All targets, for a dependency that is decided for the host and true there.
-    pub always: TargetSet,
-    /// No target, for a dependency that is decided for the host and false there.
-    pub never: TargetSet,
+pub enum Side {
+    /// For the target.
+    Target,
+    /// For the host, on which the build runs.
+    Host,
 }
 
-/// Returns the number of a package's node for a side.
-pub fn node_of(index: usize, side: Side) -> usize
-    requires { index < 2 ^ 62 }
-    ensures { result ≡ node_of index side }
-{
-    match side {
-        Side::Target => 2 * index,
-        Side::Host => 2 * index + 1,
-    }
-}
-
-impl Question {
-    /// Returns the query for these kinds and this host.
-    pub fn new(kinds: Kinds, host: Option<KnownTarget>) -> Question
-        ensures sets { IsQuestion result }
-        ensures kinds { result.kinds ≡ kinds }
-        ensures host { result.host ≡ host }
+impl Side {
+    /// Returns the host's side if `is_for_host`, and otherwise the target's.
+    pub fn new(is_for_host: bool) -> Side
+        ensures { result ≡ side is_for_host }
     {
-        Question {
-            kinds,
-            host,
-            always: TargetSet::all(),
-            never: TargetSet::none(),
+        if is_for_host {
+            Side::Host
+        } else {
+            Side::Target
         }
     }
 
-    /// Returns the targets on which a dependency is followed by its condition: all or none, if it is decided for the
-    /// host.
-    pub fn holds_by(&self, from: Side, dependency: &Dependency) -> TargetSet
-        ensures { result ≡ holds_by self.now.host self.now.always self.now.never from dependency.now }
+    /// Returns whether the condition of a dependency of this kind, of a package on this side, is evaluated on the host.
+    /// This is so for everything that the host or a build script needs.
+    pub fn is_evaluated_on_host(self, kind: Kind) -> bool
+        ensures { result ≡ is_of_host self kind }
     {
-        match self.host {
-            None => dependency.holds,
-            Some(host) => {
-                if !from.is_evaluated_on_host(dependency.kind) {
-                    dependency.holds
-                } else if dependency.holds.contains(host) {
-                    self.always
-                } else {
-                    self.never
-                }
-            }
+        match self {
+            Side::Host => true,
+            Side::Target => matches!(kind, Kind::Build),
         }
     }
 
-    /// Returns the edge of a dependency.
-    fn edge_of(&self, packages: &[Package], from: Side, dependency: &Dependency) -> Edge
-        requires { dependency.now.to < length packages.now }
-        ensures { result ≡ edge_of self.now packages.now from dependency.now }
+    /// Returns the side for which the package at the end of a dependency is built, given the kind of the dependency and
+    /// the side of the package that has it. A procedural macro is built for the host.
+    pub fn after(self, kind: Kind, is_macro: bool) -> Side
+        // Everything that the host or a build script needs is built for the host, and so is a procedural macro. Other
+        // packages are built for the target.
+        ensures { result ≡ side_after self kind is_macro }
     {
-        let is_macro = packages[dependency.to].is_macro;
-        let side = from.after(dependency.kind, is_macro);
-        Edge {
-            to: node_of(dependency.to, side),
-            holds: self.holds_by(from, dependency),
-        }
+        Side::new(self.is_evaluated_on_host(kind) || is_macro)
     }
 
-    /// Returns the edges that begin at a package's node: one for each dependency that is followed to a package.
-    fn edges_on(
-        &self,
-        alloc: Global,
-        packages: &[Package],
-        unit: &Package,
-        from: Side,
-    ) -> Result<Vec<Edge>, AllocError>
-        ensures { IfOk result (λ edges. edges.items ≡ edges_on self.now packages.now unit.now from) }
+    /// Returns whether both are the same side.
+    pub fn is_same(self, other: Side) -> bool
+        ensures { result ≡ is_same self other }
     {
-        let mut edges = Vec::new(alloc);
-        'dependencies: for dependency in &unit.dependencies {
-            let is_there = dependency.to < packages.len();
-            if is_there && self.kinds.follow(unit.is_root, dependency.kind) {
-                edges.push(self.edge_of(packages, from, dependency))?;
-            }
+        match self {
+            Side::Target => matches!(other, Side::Target),
+            Side::Host => matches!(other, Side::Host),
         }
-        Ok(edges)
-    }
-
-    /// Returns the graph of both sides.
-    pub fn graph(&self, alloc: Global, packages: &[Package]) -> Result<Graph, AllocError>
-        ensures { IfOk result (λ graph. edge_lists graph ≡ numbered self.now packages.now packages.now) }
-    {
-        let mut graph = Graph::new(alloc, 0)?;
-        'packages: for unit in packages {
-            graph.push(self.edges_on(alloc, packages, unit, Side::Target)?)?;
-            graph.push(self.edges_on(alloc, packages, unit, Side::Host)?)?;
-        }
-        Ok(graph)
-    }
-
-    /// Returns the nodes of the roots.
-    pub fn roots(&self, alloc: Global, packages: &[Package]) -> Result<Vec<usize>, AllocError>
-        ensures { IfOk result (λ roots. AreFirst self.now packages.now (length packages.now) roots.items) }
-    {
-        let mut roots = Vec::new(alloc);
-        'packages: for i in 0..packages.len() {
-            if !packages[i].is_root {
-                continue;
-            }
-            roots.push(node_of(i, Side::new(packages[i].is_macro)))?;
-        }
-        Ok(roots)
     }
 }

@@ -11,12 +11,12 @@ use Rattle.package_graphs.specs.Packages.{node_of, is_root, is_macro, is_of_host
 use Rattle.package_graphs.specs.declared.graph.Edge.{Edge}
 use Rattle.package_graphs.specs.declared.packages.Dependency.{Dependency}
 use Rattle.package_graphs.specs.declared.packages.Package.{Package}
-use Rattle.package_graphs.specs.declared.packages.Side.{Side}
-use Rattle.package_graphs.specs.declared.packages.Side.TheVariants.{Target, Host}
-use Rattle.package_graphs.specs.declared.sides.Question.{Question}
+use Rattle.package_graphs.specs.declared.sides.Side.{Side}
+use Rattle.package_graphs.specs.declared.sides.Side.TheVariants.{Target, Host}
+use Rattle.package_graphs.specs.declared.two_sided_graph.TraversalQuery.{TraversalQuery}
 
 -- one set has all targets and the other has none
-pub record IsQuestion (q : Question) : Type 0 where
+pub record IsTraversalQuery (q : TraversalQuery) : Type 0 where
   pub all : (k : ℕ) → k < COUNT → is_member q.always k ≡ true
   pub none : (k : ℕ) → k < COUNT → is_member q.never k ≡ false
 
@@ -26,27 +26,27 @@ holds_by None always never from d = d.holds
 holds_by (Some host) always never from d =
     cond (is_of_host from d.kind) (cond (is_member d.holds (place host)) always never) d.holds
 
-abbrev pub edge_of : Question → List Package → Side → Dependency → Edge
+abbrev pub edge_of : TraversalQuery → List Package → Side → Dependency → Edge
 edge_of q packages from d = record {
   to = node_of d.to (side_after from d.kind (is_macro packages d.to));
   holds = holds_by q.host q.always q.never from d;
 }
 
 -- the edge of a dependency that is followed to a package
-abbrev pub edges_of : Question → List Package → Bool → Side → Dependency → List Edge
+abbrev pub edges_of : TraversalQuery → List Package → Bool → Side → Dependency → List Edge
 edges_of q packages is_root from d =
     cond (nat_lt d.to (length packages) && is_followed q.kinds is_root d.kind) (edge_of q packages from d ∷ []) []
 
-abbrev pub edges_on : Question → List Package → Package → Side → List Edge
+abbrev pub edges_on : TraversalQuery → List Package → Package → Side → List Edge
 edges_on q packages unit from = flat_map (edges_of q packages unit.is_root from) unit.dependencies.items
 
 -- two nodes for each of some of the packages
-abbrev pub numbered : Question → List Package → List Package → Edges
+abbrev pub numbered : TraversalQuery → List Package → List Package → Edges
 numbered q packages units =
     flat_map (λ unit. edges_on q packages unit Target ∷ edges_on q packages unit Host ∷ []) units
 
 -- the nodes of the roots among the first `count` packages
-pub record AreFirst (q : Question) (packages : List Package) (count : ℕ) (roots : List ℕ) : Type 0 where
+pub record AreFirst (q : TraversalQuery) (packages : List Package) (count : ℕ) (roots : List ℕ) : Type 0 where
   pub sound : (r : ℕ) → Contains roots r
       → (p : ℕ) × IsTrue (is_root packages p) × (r ≡ node_of p (side (is_macro packages p)))
   pub complete : (p : ℕ) → p < count → IsTrue (is_root packages p)

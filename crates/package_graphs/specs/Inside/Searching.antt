@@ -5,22 +5,22 @@ use Rattle.known_targets.specs.Sets.{place}
 use Rattle.package_graphs.specs.Packages.{Sided, node_of, dependencies, StartsOn}
 use Rattle.package_graphs.specs.Paths.{LeadsBy, IsStep, IsPath, LeadTo}
 use Rattle.package_graphs.specs.declared.packages.Dependency.{Dependency}
-use Rattle.package_graphs.specs.declared.packages.Side.{Side}
-use Rattle.package_graphs.specs.declared.packages.Side.TheVariants.{Target, Host}
+use Rattle.package_graphs.specs.declared.sides.Side.{Side}
+use Rattle.package_graphs.specs.declared.sides.Side.TheVariants.{Target, Host}
 use Rattle.package_graphs.specs.declared.paths.Step.{Step}
 use Rattle.package_graphs.specs.declared.paths.Search.{Search}
 
 abbrev pub LeadsAlong : Search → Dependency → Sided → Sided → Type 0
-LeadsAlong s d m n = LeadsBy s.packages.now s.question.kinds s.question.host (place s.at) d m n
+LeadsAlong s d m n = LeadsBy s.packages.now s.traversal.kinds s.traversal.host (place s.at) d m n
 
 abbrev pub IsStepOf : Search → Step → Sided → Sided → Type 0
-IsStepOf s step m n = IsStep s.packages.now s.question.kinds s.question.host (place s.at) step m n
+IsStepOf s step m n = IsStep s.packages.now s.traversal.kinds s.traversal.host (place s.at) step m n
 
 abbrev pub IsPathOf : Search → List Step → Sided → Type 0
-IsPathOf s steps n = IsPath s.packages.now s.question.kinds s.question.host (place s.at) steps n
+IsPathOf s steps n = IsPath s.packages.now s.traversal.kinds s.traversal.host (place s.at) steps n
 
 abbrev pub Leads : Search → List Step → ℕ → Type 0
-Leads s steps p = LeadTo s.packages.now s.question.kinds s.question.host (place s.at) steps p
+Leads s steps p = LeadTo s.packages.now s.traversal.kinds s.traversal.host (place s.at) steps p
 
 abbrev pub distance : List ℕ → Sided → ℕ
 distance ds n = slice_index_or ds (node_of n.0 n.1) 0

@@ -6,9 +6,9 @@ use Rattle.known_targets.specs.declared.table.TheConstants.{COUNT}
 use Rattle.package_graphs.specs.Graphs.{Edges, is_in, IsPresent}
 use Rattle.package_graphs.specs.Packages.{Sided, IsThere, IsThereOn, node_of}
 use Rattle.package_graphs.specs.declared.packages.Kinds.{Kinds}
-use Rattle.package_graphs.specs.declared.packages.Side.TheVariants.{Target, Host}
+use Rattle.package_graphs.specs.declared.sides.Side.TheVariants.{Target, Host}
 use Rattle.package_graphs.specs.Inside.Numbered.{numbered}
-use Rattle.package_graphs.specs.declared.sides.Question.{Question}
+use Rattle.package_graphs.specs.declared.two_sided_graph.TraversalQuery.{TraversalQuery}
 use Rattle.package_graphs.proofs.Sided.{length_numbered, fits_node, sided_from_node, node_from_sided}
 use Rattle.package_graphs.proofs.Alone.{alone_from_none, none_from_alone}
 use Rattle.package_graphs.proofs.Followed.{from_side}
@@ -17,7 +17,7 @@ use Rattle.package_graphs.proofs.package_sets.present_packages.Goals as goal
 pub returns : goal.returns
 returns c =
     let packages = c.args.packages.now in
-    let q : Question = c.new-question.result in
+    let q : TraversalQuery = c.new-traversal.result in
     let sets = c.in_ok-present.field-0.items in
     let nodes = c.in_ok-roots.roots.items in
     let firsts = c.in_ok-roots.ensures in
@@ -38,8 +38,8 @@ returns c =
     → IsTrue (is_in sets (node_of n.0 n.1) k) ↔ IsThereOn packages q.kinds q.host k n =
     λ n k inside known.
     let e = at_node n k inside known in
-    let all = c.new-question.ensures.sets.all k known in
-    let none = c.new-question.ensures.sets.none k known in (
+    let all = c.new-traversal.ensures.sets.all k known in
+    let none = c.new-traversal.ensures.sets.none k known in (
       λ h. sided_from_node q packages k nodes all none firsts n (e.0 h),
       λ h. e.1 (node_from_sided q packages k nodes all none firsts n h inside),
     ) in
@@ -47,9 +47,9 @@ returns c =
     → IsTrue (is_in sets (node_of n.0 n.1) k) ↔ IsThereOn packages c.args.kinds c.args.host k n =
     λ n k inside known.
     subst (λ (kinds : Kinds). IsTrue (is_in sets (node_of n.0 n.1) k) ↔ IsThereOn packages kinds c.args.host k n)
-    c.new-question.ensures.kinds
+    c.new-traversal.ensures.kinds
     (subst (λ (host : Option KnownTarget). IsTrue (is_in sets (node_of n.0 n.1) k)
-    ↔ IsThereOn packages q.kinds host k n) c.new-question.ensures.host (asked n k inside known)) in
+    ↔ IsThereOn packages q.kinds host k n) c.new-traversal.ensures.host (asked n k inside known)) in
     let alone : c.args.host ≡ None → (n : Sided) (k : ℕ) → n.0 < length packages → k < COUNT
     → IsTrue (is_in sets (node_of n.0 n.1) k) → IsThere packages c.args.kinds k n.0 =
     λ none n k inside known h.

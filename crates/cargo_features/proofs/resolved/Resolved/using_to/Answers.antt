@@ -1,7 +1,7 @@
 use Rattle.std.proofs.Common.{◌≡◌, Bool, ◌||◌, Some, slice_get, sym, ◌∙◌, ap}
 use Rattle.known_targets.specs.Sets.{is_member}
-use Rattle.package_graphs.specs.declared.packages.Side.{Side}
-use Rattle.package_graphs.specs.declared.packages.Side.TheVariants.{Target, Host}
+use Rattle.package_graphs.specs.declared.sides.Side.{Side}
+use Rattle.package_graphs.specs.declared.sides.Side.TheVariants.{Target, Host}
 use Rattle.cargo_features.proofs.Using.{got, uses_from, to_using, from_using}
 use Rattle.cargo_features.proofs.resolved.Resolved.using_to.Goals as goal
 

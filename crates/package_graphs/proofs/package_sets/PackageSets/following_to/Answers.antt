@@ -3,8 +3,8 @@ use Rattle.known_targets.specs.Sets.{is_member}
 use Rattle.known_targets.specs.declared.known.KnownTarget.{KnownTarget}
 use Rattle.package_graphs.specs.Kinds.{is_followed}
 use Rattle.package_graphs.specs.Packages.{is_macro}
-use Rattle.package_graphs.specs.declared.packages.Side.{Side}
-use Rattle.package_graphs.specs.declared.packages.Side.TheVariants.{Target, Host}
+use Rattle.package_graphs.specs.declared.sides.Side.{Side}
+use Rattle.package_graphs.specs.declared.sides.Side.TheVariants.{Target, Host}
 use Rattle.package_graphs.proofs.Followed.{leads_with, to_either, from_to}
 use Rattle.package_graphs.proofs.package_sets.PackageSets.following_to.Goals as goal
 
@@ -15,7 +15,7 @@ returns c k below =
     let d = c.args.dependency.now in
     let by : Option KnownTarget → Bool → Side → Bool =
     λ host is_macro on. leads_with sets host is_macro c.args.from d c.args.to k on in
-    let host = c.new-question.result.host in
+    let host = c.new-traversal.result.host in
     let is_it = c.is_macro-is_macro.result in
     let e : is_member c.union.result k
     ≡ (by c.args.host (is_macro packages d.to) Target || by c.args.host (is_macro packages d.to) Host) =
@@ -24,7 +24,7 @@ returns c k below =
     ∙ ap (λ (b : Bool). by host is_it Target || b) (c.along_to.ensures k below)
     ∙ ap (λ (m : Bool). by host m Target || by host m Host) c.is_macro-is_macro.ensures
     ∙ ap (λ (h : Option KnownTarget). by h (is_macro packages d.to) Target || by h (is_macro packages d.to) Host)
-    c.new-question.ensures.host in
+    c.new-traversal.ensures.host in
     let followed =
     ap (λ (root : Bool). is_followed c.args.kinds root d.kind) (sym c.is_root.ensures)
     ∙ sym c.follow.ensures ∙ c.if-not-follow.false in (

@@ -1,7 +1,7 @@
 use Rattle.std.proofs.Common.{◌≤◌, arith}
 use Rattle.std.proofs.lemmas.Bool.{leb-true}
 use Rattle.package_graphs.specs.Inside.Searching.{distance}
-use Rattle.package_graphs.specs.declared.packages.Side.TheVariants.{Host}
+use Rattle.package_graphs.specs.declared.sides.Side.TheVariants.{Host}
 use Rattle.package_graphs.proofs.Distances.{both_far}
 use Rattle.package_graphs.proofs.paths.Search.is_no_nearer.Goals as goal
 

@@ -3,9 +3,9 @@ use Rattle.std.specs.Prelude.{Contains, IsTrue}
 use Rattle.std.proofs.lemmas.Bool.{both_ways}
 use Rattle.std.proofs.lemmas.List.Elements.{Contains-append_left, Contains-push, Contains-push_cases}
 use Rattle.package_graphs.specs.Packages.{is_root, is_macro, node_of, side}
-use Rattle.package_graphs.specs.declared.packages.Side.{Side}
+use Rattle.package_graphs.specs.declared.sides.Side.{Side}
 use Rattle.package_graphs.proofs.Sided.{root_read, macro_read}
-use Rattle.package_graphs.proofs.sides.Question.roots.Goals as goal
+use Rattle.package_graphs.proofs.two_sided_graph.TraversalQuery.roots.Goals as goal
 
 pub packages-preserved : goal.packages-preserved
 packages-preserved c =
