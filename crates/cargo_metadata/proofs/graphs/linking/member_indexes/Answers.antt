@@ -1,16 +1,16 @@
 use Rattle.std.proofs.Common.{ℕ, ◌<◌, List, length, sym, ◌∙◌, subst, arith, below_more}
 use Rattle.std.specs.Prelude.{Contains}
 use Rattle.cargo_metadata.specs.Ids.{node_ids, member_ids, id_at}
-use Rattle.cargo_metadata.specs.Inside.Places.{place_at}
+use Rattle.cargo_metadata.specs.Indexes.{index_at}
 use Rattle.cargo_metadata.specs.Inside.Finding.{AreMembersAmong}
-use Rattle.cargo_metadata.proofs.Indexing.{id_read, inside_ids, found_contains, absent, no_place, place_of}
+use Rattle.cargo_metadata.proofs.Indexing.{id_read, inside_ids, found_contains, absent, no_index, index_found}
 use Rattle.cargo_metadata.proofs.Indexing.{members_sound, members_complete, none_some}
-use Rattle.cargo_metadata.proofs.graphs.linking.member_places.Goals as goal
+use Rattle.cargo_metadata.proofs.graphs.linking.member_indexes.Goals as goal
 
 pub members-init : goal.members-init
 members-init c = record {
   nodes = λ k below. absurd (omega arith);
-  sound = λ q h. absurd (none_some (place_at c.new-places.result q) (c.new-places.ensures q) h);
+  sound = λ q h. absurd (none_some (index_at c.new-indexes.result q) (c.new-indexes.ensures q) h);
   complete = λ k below. absurd (omega arith);
 }
 
@@ -28,8 +28,8 @@ returns-then-is_none c =
       before = c.members.invariant.nodes;
       inside = below;
       none = λ h.
-          absent (place_at c.args.nodes.now) nodes id c.requires.nodes
-          (sym c.find.ensures ∙ no_place c.find.result c.is_none.result c.is_none.ensures c.if-is_none.true)
+          absent (index_at c.args.nodes.now) nodes id c.requires.nodes
+          (sym c.find.ensures ∙ no_index c.find.result c.is_none.result c.is_none.ensures c.if-is_none.true)
           (subst (λ (q : List ℕ). Contains nodes q) (sym is) h);
     }
 
@@ -42,24 +42,24 @@ members-preserved c =
     let below : i < length m.members.items = omega (arith, c.members-test.true, c.len-i-end.ensures, m.members.ok.0) in
     let is = id_read (λ b. b.now) m.members.items i c.index-id.result.now below c.index-id.ensures in
     let nodes = node_ids m.nodes.items in
-    let found = place_of c.find.result c.is_none.result c.is_none.ensures c.if-is_none.false in
+    let found = index_found c.find.result c.is_none.result c.is_none.ensures c.if-is_none.false in
     record {
       nodes =
           below_more (λ k. Contains nodes (id_at ids k)) i c.members.invariant.nodes
           (subst (λ (q : List ℕ). Contains nodes q) is
-          (found_contains (place_at c.args.nodes.now) nodes id found.0 c.requires.nodes
+          (found_contains (index_at c.args.nodes.now) nodes id found.0 c.requires.nodes
           (sym c.find.ensures ∙ found.1)));
       sound =
-          members_sound (place_at c.members.places) (place_at c.add.new.self) ids i id
+          members_sound (index_at c.members.indexes) (index_at c.add.new.self) ids i id
           (inside_ids (λ b. b.now) m.members.items i below) is c.in_default.ensures.added c.members.invariant.sound;
       complete =
-          members_complete (place_at c.members.places) (place_at c.add.new.self) ids i id is
+          members_complete (index_at c.members.indexes) (index_at c.add.new.self) ids i id is
           c.in_default.ensures.added c.members.invariant.complete;
     }
 
 pub returns : goal.returns
 returns c =
     let m = c.args.metadata.now in
-    subst (λ (n : ℕ). AreMembersAmong m c.members.places n)
+    subst (λ (n : ℕ). AreMembersAmong m c.members.indexes n)
     (omega (arith, c.members.auto.i-end, c.members-test.false, c.len-i-end.ensures, m.members.ok.0))
     c.members.invariant
