@@ -20,7 +20,7 @@ use Rattle.cargo_metadata.specs.declared.graphs.edges.NoSet.{NoSet}
 use Rattle.cargo_metadata.specs.declared.graphs.edges.NoSet.TheVariants as no_set
 use Rattle.cargo_metadata.specs.Inside.Adding.{AddsRows, AddsKinds, AreEdgesSoFar, IsNoSet, wrong_at}
 
--- ---- what is read at a place, at any other default
+-- ---- what is read at an index, at any other default
 
 pub at_any : {X : Type 0} (P : X → Type 0) (xs : List X) (i : ℕ) (x : X) → i < length xs → x ≡ get_or xs i x → P x
     → (y : X) → P (get_or xs i y)

@@ -1,4 +1,4 @@
--- Places of ids, while ids are added.
+-- Indexes of ids, while ids are added.
 use Rattle.std.proofs.Common.{◌≡◌, refl, sym, ◌∙◌, ap, subst, ℕ, ◌+◌, ◌<◌, ◌≤◌, Bool, true, false, not, cond, List}
 use Rattle.std.proofs.Common.{[], map, length}
 use Rattle.std.proofs.Common.{get_or, ◌⊎◌, inl, inr, Option, Some, None, IsSome, arith, below_more}
@@ -8,9 +8,9 @@ use Rattle.std.proofs.lemmas.List.{get_or-map, get_or_default, length-map}
 use Rattle.std.proofs.lemmas.List.Elements.{Contains-get_or}
 use Rattle.std.proofs.lemmas.Slice.Eq.{bytes_eq-Decides}
 use Rattle.cargo_metadata.specs.Ids.{id_at, AreDistinct, IsFirstRepeat}
-use Rattle.cargo_metadata.specs.Inside.Places.{IsIndex, placed}
+use Rattle.cargo_metadata.specs.Indexes.{IsIndex, indexed}
 
--- ---- ids by their places
+-- ---- ids by their indexes
 
 pub id_read : {X : Type 0} (f : X → List ℕ) (xs : List X) (i : ℕ) (x : X) → i < length xs → x ≡ get_or xs i x
     → f x ≡ id_at (map f xs) i
@@ -46,10 +46,10 @@ cond_true : (b : Bool) (new some old : Option ℕ) → b ≡ true → new ≡ co
 cond_true true new some old h is = is
 cond_true false new some old h is = absurd cc
 
-unplaced : (earlier : Option ℕ) (id : List ℕ) (i : ℕ) (q : List ℕ) (new old : Option ℕ) → earlier ≡ None
-    → new ≡ placed earlier id i q old → new ≡ cond (bytes_eq id q) (Some i) old
-unplaced None id i q new old none is = is
-unplaced (Some e) id i q new old none is = absurd cc
+unindexed : (earlier : Option ℕ) (id : List ℕ) (i : ℕ) (q : List ℕ) (new old : Option ℕ) → earlier ≡ None
+    → new ≡ indexed earlier id i q old → new ≡ cond (bytes_eq id q) (Some i) old
+unindexed None id i q new old none is = is
+unindexed (Some e) id i q new old none is = absurd cc
 
 some_same : (i j : ℕ) → Some i ≡ Some j → i ≡ j
 some_same i j e = cc
@@ -60,11 +60,11 @@ by_id : (id q : List ℕ) (i : ℕ) (new old : Option ℕ) → new ≡ cond (byt
 by_id id q i new old is = cond_cases (bytes_eq id q) (id ≡ q) new (Some i) old (bytes_eq-Decides id q).0 is
 
 pub index_more : (old new : List ℕ → Option ℕ) (ids : List (List ℕ)) (i : ℕ) (id : List ℕ) → id ≡ id_at ids i
-    → old id ≡ None → ((q : List ℕ) → new q ≡ placed (old id) id i q (old q)) → IsIndex old ids i
+    → old id ≡ None → ((q : List ℕ) → new q ≡ indexed (old id) id i q (old q)) → IsIndex old ids i
     → IsIndex new ids (i + 1)
 index_more old new ids i id is none added index =
     let given : (q : List ℕ) → new q ≡ cond (bytes_eq id q) (Some i) (old q) =
-    λ q. unplaced (old id) id i q (new q) (old q) none (added q) in
+    λ q. unindexed (old id) id i q (new q) (old q) none (added q) in
     let step : (q : List ℕ) → ((id ≡ q) × (new q ≡ Some i)) ⊎ (new q ≡ old q) =
     λ q. by_id id q i (new q) (old q) (given q) in
     record {
@@ -128,44 +128,44 @@ all_distinct f xs at index =
 some_from : (o : Option ℕ) (i : ℕ) → o ≡ Some i → IsSome o
 some_from o i is = subst IsSome (sym is) refl
 
-placed_some : (earlier : Option ℕ) (id q : List ℕ) (i : ℕ) (new old : Option ℕ) → new ≡ placed earlier id i q old
+indexed_some : (earlier : Option ℕ) (id q : List ℕ) (i : ℕ) (new old : Option ℕ) → new ≡ indexed earlier id i q old
     → IsSome new → (id ≡ q) ⊎ IsSome old
-placed_some (Some e) id q i new old is h = inr (subst IsSome is h)
-placed_some None id q i new old is h =
+indexed_some (Some e) id q i new old is h = inr (subst IsSome is h)
+indexed_some None id q i new old is h =
     elim (by_id id q i new old is) [ inl here ↦ inl here.0 | inr before ↦ inr (subst IsSome before h) ]
 
-placed_keeps : (earlier : Option ℕ) (id q : List ℕ) (i : ℕ) (new old : Option ℕ) → new ≡ placed earlier id i q old
+indexed_keeps : (earlier : Option ℕ) (id q : List ℕ) (i : ℕ) (new old : Option ℕ) → new ≡ indexed earlier id i q old
     → IsSome old → IsSome new
-placed_keeps (Some e) id q i new old is h = subst IsSome (sym is) h
-placed_keeps None id q i new old is h =
+indexed_keeps (Some e) id q i new old is h = subst IsSome (sym is) h
+indexed_keeps None id q i new old is h =
     elim (by_id id q i new old is) [
       | inl here ↦ some_from new i here.1
       | inr before ↦ subst IsSome (sym before) h
     ]
 
-placed_here : (earlier : Option ℕ) (id : List ℕ) (i : ℕ) (new : Option ℕ) → new ≡ placed earlier id i id earlier
+indexed_here : (earlier : Option ℕ) (id : List ℕ) (i : ℕ) (new : Option ℕ) → new ≡ indexed earlier id i id earlier
     → IsSome new
-placed_here (Some e) id i new is = some_from new e is
-placed_here None id i new is =
+indexed_here (Some e) id i new is = some_from new e is
+indexed_here None id i new is =
     some_from new i (cond_true (bytes_eq id id) new (Some i) None ((bytes_eq-Decides id id).1 refl) is)
 
 pub members_sound : (old new : List ℕ → Option ℕ) (ids : List (List ℕ)) (i : ℕ) (id : List ℕ) → i < length ids
-    → id ≡ id_at ids i → ((q : List ℕ) → new q ≡ placed (old id) id i q (old q))
+    → id ≡ id_at ids i → ((q : List ℕ) → new q ≡ indexed (old id) id i q (old q))
     → ((q : List ℕ) → IsSome (old q) → Contains ids q) → (q : List ℕ) → IsSome (new q) → Contains ids q
 members_sound old new ids i id below is added sound q h =
-    elim (placed_some (old id) id q i (new q) (old q) (added q) h) [
+    elim (indexed_some (old id) id q i (new q) (old q) (added q) h) [
       | inl here ↦ subst (λ (x : List ℕ). Contains ids x) (sym is ∙ here) (contains_at ids i below)
       | inr before ↦ sound q before
     ]
 
 pub members_complete : (old new : List ℕ → Option ℕ) (ids : List (List ℕ)) (i : ℕ) (id : List ℕ) → id ≡ id_at ids i
-    → ((q : List ℕ) → new q ≡ placed (old id) id i q (old q)) → ((k : ℕ) → k < i → IsSome (old (id_at ids k)))
+    → ((q : List ℕ) → new q ≡ indexed (old id) id i q (old q)) → ((k : ℕ) → k < i → IsSome (old (id_at ids k)))
     → (k : ℕ) → k < i + 1 → IsSome (new (id_at ids k))
 members_complete old new ids i id is added complete =
     below_more (λ k. IsSome (new (id_at ids k))) i
-    (λ k below. placed_keeps (old id) id (id_at ids k) i (new (id_at ids k)) (old (id_at ids k)) (added (id_at ids k))
+    (λ k below. indexed_keeps (old id) id (id_at ids k) i (new (id_at ids k)) (old (id_at ids k)) (added (id_at ids k))
     (complete k below))
-    (subst (λ (x : List ℕ). IsSome (new x)) is (placed_here (old id) id i (new id) (added id)))
+    (subst (λ (x : List ℕ). IsSome (new x)) is (indexed_here (old id) id i (new id) (added id)))
 
 pub is_member : (at : List ℕ → Option ℕ) (ids : List (List ℕ)) (q : List ℕ)
     → ((k : ℕ) → k < length ids → IsSome (at (id_at ids k))) → Contains ids q → IsSome (at q)
@@ -175,15 +175,15 @@ is_member at ids q complete (k, below, same) =
 pub none_some : (o : Option ℕ) → o ≡ None → IsSome o → ⊥
 none_some o none h = let e = subst IsSome none h in cc
 
-pub place_of : (o : Option ℕ) (none : Bool) → is_some o ≡ not none → none ≡ false → (i : ℕ) × (o ≡ Some i)
-place_of None true is other = absurd cc
-place_of None false is other = absurd cc
-place_of (Some i) none is other = (i, refl)
+pub index_found : (o : Option ℕ) (none : Bool) → is_some o ≡ not none → none ≡ false → (i : ℕ) × (o ≡ Some i)
+index_found None true is other = absurd cc
+index_found None false is other = absurd cc
+index_found (Some i) none is other = (i, refl)
 
-pub no_place : (o : Option ℕ) (none : Bool) → is_some o ≡ not none → none ≡ true → o ≡ None
-no_place None none is there = refl
-no_place (Some i) true is there = absurd cc
-no_place (Some i) false is there = absurd cc
+pub no_index : (o : Option ℕ) (none : Bool) → is_some o ≡ not none → none ≡ true → o ≡ None
+no_index None none is there = refl
+no_index (Some i) true is there = absurd cc
+no_index (Some i) false is there = absurd cc
 
 pub root_iff : (o : Option ℕ) (some : Bool) (P : Type 0) → some ≡ is_some o → (IsSome o → P) → (P → IsSome o)
     → (some ≡ true) ↔ P

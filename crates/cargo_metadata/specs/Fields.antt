@@ -1,9 +1,10 @@
 -- The values of the fields of an object.
-use Rattle.std.specs.Prelude.{◌≡◌, ℕ, Bool, true, false, cond, ◌==◌, List, [], ◌∷◌, ◌++◌, Option, Some, None, codes}
+use Rattle.std.specs.Prelude.{◌≡◌, ℕ, Bool, true, false, cond, ◌==◌, ◌&&◌, List, [], ◌∷◌, ◌++◌, Option, Some, None, codes}
 use Rattle.std.specs.Prelude.{All, bytes_eq}
 use Rattle.std.specs.Prelude.{option_map, option_and_then, is_some}
-use Rattle.serde_json.specs.Data.{Data, null, boolean, number, string, array, object, Items, no_items, item}
-use Rattle.serde_json.specs.Find.{get, as_str, as_array, as_object, as_number, as_u64}
+use Rattle.serde_json.specs.Data.{Data, null, boolean, number, string, array, object, Items, no_items, item, Members}
+use Rattle.serde_json.specs.Data.{no_members, member}
+use Rattle.serde_json.specs.Find.{get, as_str, as_bool, as_array, as_object, as_number, as_u64}
 use Rattle.cargo_metadata.specs.declared.nodes.Kind.{Kind}
 use Rattle.cargo_metadata.specs.declared.nodes.Kind.TheVariants.{Normal, Build, Dev}
 use Rattle.cargo_metadata.specs.declared.refusals.Wanted.{Wanted}
@@ -15,6 +16,9 @@ field_at field d = get field d
 
 abbrev pub text_at : List ℕ → Data → Option (List ℕ)
 text_at field d = option_and_then as_str (get field d)
+
+abbrev pub flag_at : List ℕ → Data → Option Bool
+flag_at field d = option_and_then as_bool (get field d)
 
 abbrev pub elements : Items → List Data
 elements no_items = []
@@ -46,6 +50,24 @@ condition_in (Some (string s)) = Some (Some s)
 condition_in (Some (array ds)) = None
 condition_in (Some (object ms)) = None
 
+abbrev pub are_texts : List Data → Bool
+are_texts [] = true
+are_texts (d ∷ ds) = is_some (as_str d) && are_texts ds
+
+-- a list of texts
+abbrev pub is_texts : Option Items → Bool
+is_texts None = false
+is_texts (Some ds) = are_texts (elements ds)
+
+abbrev pub are_lists : Members → Bool
+are_lists no_members = true
+are_lists (member name d ms) = is_texts (as_array d) && are_lists ms
+
+-- an object, each of whose members is a list of texts
+abbrev pub is_features : Option Members → Bool
+is_features None = false
+is_features (Some ms) = are_lists ms
+
 abbrev pub is_one : Option ℕ → Bool
 is_one None = false
 is_one (Some n) = n == 1
@@ -58,6 +80,8 @@ fits wanted.One found = is_one (option_and_then as_u64 (option_and_then as_numbe
 fits wanted.Resolve found = is_some (option_and_then as_object found)
 fits wanted.Kind found = is_some (kind_in found)
 fits wanted.Condition found = is_some (condition_in found)
+fits wanted.Flag found = is_some (option_and_then as_bool found)
+fits wanted.Features found = is_features (option_and_then as_object found)
 
 abbrev pub IsWrong : Data → Wrong → Type 0
 IsWrong d wrong = fits wrong.wanted (get wrong.field.now d) ≡ false

@@ -4,6 +4,7 @@ pub mod Packages
 pub mod Nodes
 pub mod Documents
 pub mod Ids
+pub mod Indexes
 pub mod Links
 pub mod Refusals
 pub mod Inside

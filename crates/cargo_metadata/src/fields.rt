@@ -1,9 +1,12 @@
-//! The values of the fields of an object.
+//! Reads fields of the objects in a document of `cargo metadata`.
 
-ghost use Rattle.std.specs.Prelude.{◌≡◌, map, option_map, MatchResult, Some};
+ghost use Rattle.std.specs.Prelude.{◌≡◌, map, option_map, MatchResult, Some, codes};
+ghost use Rattle.std.specs.Option.{option_copied};
 ghost use Rattle.serde_json.specs.View.{view};
-ghost use Rattle.cargo_metadata.specs.Fields.{field_at, text_at, list_at, IsWrong, IsAt};
+ghost use Rattle.cargo_metadata.specs.Fields.{field_at, text_at, list_at, flag_at, IsWrong, IsAt};
+ghost use Rattle.cargo_metadata.specs.Nodes.{kind_at, condition_at};
 
+use crate::nodes::Kind;
 use crate::refusals::{Wanted, Wrong};
 use serde_json::Value;
 
@@ -61,6 +64,73 @@ pub fn wanted_list<'a>(value: &'a Value, field: &'static str) -> Result<&'a [Val
         None => Err(Wrong {
             field,
             wanted: Wanted::List,
+        }),
+    }
+}
+
+/// Returns the boolean in a field. Fails if it contains none.
+pub fn wanted_flag(value: &Value, field: &'static str) -> Result<bool, Wrong>
+    // The result is the boolean in the field. Fails only if it contains none.
+    ensures { MatchResult result (λ b. flag_at field.now (view value.now) ≡ Some b)
+        (λ wrong. IsWrong (view value.now) wrong × IsAt field.now Wanted.Flag wrong) }
+{
+    let wrong = Wrong {
+        field,
+        wanted: Wanted::Flag,
+    };
+    let found = match field_at(value, field) {
+        Some(found) => found,
+        None => return Err(wrong),
+    };
+    match found.as_bool() {
+        Some(flag) => Ok(flag),
+        None => Err(wrong),
+    }
+}
+
+/// Returns the kind of a dependency: normal if the field is missing or null. Fails if it contains anything other than
+/// `build` or `dev`.
+pub fn kind_of(value: &Value) -> Result<Kind, Wrong>
+    ensures { MatchResult result (λ kind. kind_at (view value.now) ≡ Some kind)
+        (λ wrong. IsWrong (view value.now) wrong × IsAt (codes "kind") Wanted.Kind wrong) }
+{
+    let wrong = Wrong {
+        field: "kind",
+        wanted: Wanted::Kind,
+    };
+    let found = match field_at(value, "kind") {
+        None => return Ok(Kind::Normal),
+        Some(found) => found,
+    };
+    if found.is_null() {
+        return Ok(Kind::Normal);
+    }
+    match found.as_str() {
+        None => Err(wrong),
+        Some("build") => Ok(Kind::Build),
+        Some("dev") => Ok(Kind::Dev),
+        Some(_) => Err(wrong),
+    }
+}
+
+/// Returns the condition of a dependency: `None` if the field is missing or null. Fails if it contains anything other
+/// than a text.
+pub fn condition_of<'a>(value: &'a Value) -> Result<Option<&'a str>, Wrong>
+    ensures { MatchResult result (λ text. condition_at (view value.now) ≡ Some (option_copied text))
+        (λ wrong. IsWrong (view value.now) wrong × IsAt (codes "target") Wanted.Condition wrong) }
+{
+    let found = match field_at(value, "target") {
+        None => return Ok(None),
+        Some(found) => found,
+    };
+    if found.is_null() {
+        return Ok(None);
+    }
+    match found.as_str() {
+        Some(text) => Ok(Some(text)),
+        None => Err(Wrong {
+            field: "target",
+            wanted: Wanted::Condition,
         }),
     }
 }

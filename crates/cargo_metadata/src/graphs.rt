@@ -3,7 +3,6 @@
 
 mod edges;
 mod linking;
-mod places;
 mod refusals;
 mod shown;
 

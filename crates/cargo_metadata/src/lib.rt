@@ -2,14 +2,16 @@
 //! `--format-version 1`, as far as a graph of packages needs it, and that graph.
 #![tactic(auto)]
 
-mod fields;
+pub mod fields;
 pub mod graphs;
+mod indexes;
 mod metadata;
 mod nodes;
 mod packages;
 mod refusals;
 mod shown;
 
+pub use indexes::Indexes;
 pub use metadata::{Metadata, read};
 pub use nodes::{Dependency, Kind, KindRow, Node};
 pub use packages::Package;

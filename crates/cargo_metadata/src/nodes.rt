@@ -1,14 +1,12 @@
 //! The nodes of a document's graph, and their dependencies.
 
-ghost use Rattle.std.specs.Prelude.{◌≡◌, MatchResult, Some, codes};
-ghost use Rattle.std.specs.Option.{option_copied};
+ghost use Rattle.std.specs.Prelude.{MatchResult};
 ghost use Rattle.serde_json.specs.View.{view};
-ghost use Rattle.cargo_metadata.specs.Fields.{IsWrong, IsAt, IsFirstWrong, fields_of_kind};
-ghost use Rattle.cargo_metadata.specs.Nodes.{kind_at, condition_at, IsKindRow, IsDependency, IsNode};
-ghost use Rattle.cargo_metadata.specs.Nodes.{IsInDependency, IsInNode};
+ghost use Rattle.cargo_metadata.specs.Fields.{IsFirstWrong, fields_of_kind};
+ghost use Rattle.cargo_metadata.specs.Nodes.{IsKindRow, IsDependency, IsNode, IsInDependency, IsInNode};
 
-use crate::fields::{field_at, text_at, wanted_list, wanted_text};
-use crate::refusals::{InDependency, InNode, Wanted, Wrong};
+use crate::fields::{condition_of, kind_of, text_at, wanted_list, wanted_text};
+use crate::refusals::{InDependency, InNode, Wrong};
 use serde_json::Value;
 use std::alloc::{AllocError, Global};
 
@@ -41,51 +39,6 @@ pub struct Dependency<'a> {
 pub struct Node<'a> {
     pub id: &'a str,
     pub dependencies: Vec<Dependency<'a>>,
-}
-
-/// Returns the kind of a dependency: normal if the field is missing or null.
-fn kind_of(value: &Value) -> Result<Kind, Wrong>
-    ensures { MatchResult result (λ kind. kind_at (view value.now) ≡ Some kind)
-        (λ wrong. IsWrong (view value.now) wrong × IsAt (codes "kind") Wanted.Kind wrong) }
-{
-    let wrong = Wrong {
-        field: "kind",
-        wanted: Wanted::Kind,
-    };
-    let found = match field_at(value, "kind") {
-        None => return Ok(Kind::Normal),
-        Some(found) => found,
-    };
-    if found.is_null() {
-        return Ok(Kind::Normal);
-    }
-    match found.as_str() {
-        None => Err(wrong),
-        Some("build") => Ok(Kind::Build),
-        Some("dev") => Ok(Kind::Dev),
-        Some(_) => Err(wrong),
-    }
-}
-
-/// Returns the condition of a dependency: `None` if the field is missing or null.
-fn condition_of<'a>(value: &'a Value) -> Result<Option<&'a str>, Wrong>
-    ensures { MatchResult result (λ text. condition_at (view value.now) ≡ Some (option_copied text))
-        (λ wrong. IsWrong (view value.now) wrong × IsAt (codes "target") Wanted.Condition wrong) }
-{
-    let found = match field_at(value, "target") {
-        None => return Ok(None),
-        Some(found) => found,
-    };
-    if found.is_null() {
-        return Ok(None);
-    }
-    match found.as_str() {
-        Some(text) => Ok(Some(text)),
-        None => Err(Wrong {
-            field: "target",
-            wanted: Wanted::Condition,
-        }),
-    }
 }
 
 /// Reads a kind and its condition from an object. Fails at the first of the two that is not as expected.

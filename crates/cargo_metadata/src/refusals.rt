@@ -18,6 +18,10 @@ pub enum Wanted {
     Kind,
     /// A text or null.
     Condition,
+    /// `true` or `false`.
+    Flag,
+    /// An object, each of whose members is a list of texts.
+    Features,
 }
 
 /// A field without the expected value.

@@ -12,6 +12,8 @@ impl Display for Wanted {
             Wanted::Resolve => write!(f, "an object is wanted; `--no-deps` leaves it out"),
             Wanted::Kind => write!(f, "null, \"build\" or \"dev\" is wanted"),
             Wanted::Condition => write!(f, "a text or null is wanted"),
+            Wanted::Flag => write!(f, "true or false is wanted"),
+            Wanted::Features => write!(f, "an object of lists of texts is wanted"),
         }
     }
 }

@@ -1,12 +1,13 @@
 -- Lists to which elements are added.
 use Rattle.std.proofs.Common.{◌≡◌, ℕ, ◌+◌, ◌<◌, ◌≤◌, List, [], ◌∷◌, ◌++◌, length, get_or, take, sym, ◌∙◌, ap, subst}
-use Rattle.std.proofs.Common.{◌⊎◌, inl, inr, Option, Some, arith}
+use Rattle.std.proofs.Common.{◌⊎◌, inl, inr, Option, Some, Bor, arith}
 use Rattle.std.specs.Prelude.{◌↔◌, Contains, slice_get, Any}
 use Rattle.std.proofs.lemmas.Bool.{cases_lt}
-use Rattle.std.proofs.lemmas.List.{take_more, take_all, length-take, get_or_default}
+use Rattle.std.proofs.lemmas.List.{take_more, take_all, length-take, get_or_default, map-append}
 use Rattle.std.proofs.lemmas.Option.{slice_get_within}
 use Rattle.std.proofs.lemmas.List.Elements.{Contains-append_left, Contains-append_cases, Contains-push}
 use Rattle.declared_features.specs.Lists.{HasJust, Adds, SomeBelow, SomeAt}
+use Rattle.declared_features.specs.Inside.Names.{texts_in}
 
 pub only : {X : Type 0} (x y : X) → Contains (x ∷ []) y → x ≡ y
 only x y (k, below, same) =
@@ -218,3 +219,67 @@ pub any_copied : {E M : Type 0} (old new : List M) (es : List E) (i : ℕ) (defa
 any_copied old new es i default Q below adds has =
     any_next old new es i (get_or es i default) Q below
     (get_or_default es i default (get_or es i default) below) adds has
+
+-- ---- what is added for the first elements of a list
+
+pub adding_start : {E M : Type 0} (ms : List M) (es : List E) (Q : E → M → Type 0)
+    → Adds ms ms (λ m. Any (λ e. Q e m) (take 0 es))
+adding_start {E} {M} ms es Q =
+    adds_none ms (λ m. Any (λ e. Q e m) (take 0 es))
+    (λ m h. let below = h.2 in omega (arith, below, length-take 0 es))
+
+pub adding_next : {E M : Type 0} (old mid new : List M) (es : List E) (i : ℕ) (default : E) (Q : E → M → Type 0)
+    → i < length es → Adds mid new (λ m. Q (get_or es i default) m)
+    → Adds old mid (λ m. Any (λ e. Q e m) (take i es)) → Adds old new (λ m. Any (λ e. Q e m) (take (i + 1) es))
+adding_next {E} {M} old mid new es i default Q below more adds =
+    let e : E = get_or es i default in
+    let is : e ≡ get_or es i e = get_or_default es i default e below in
+    let whole : take (i + 1) es ≡ take i es ++ e ∷ [] =
+    take_more es i e below ∙ ap (λ (g : E). take i es ++ g ∷ []) (sym is) in
+    adds_then old mid new (λ m. Any (λ e. Q e m) (take i es)) (λ m. Q e m)
+    (λ m. Any (λ e. Q e m) (take (i + 1) es)) adds more
+    (λ m h.
+    elim h [
+      | inl before ↦ any_before (take i es) (take (i + 1) es) e (λ e. Q e m) whole before
+      | inr here ↦ any_here (take i es) (take (i + 1) es) e (λ e. Q e m) whole here
+    ])
+    (λ m some. any_more (take i es) (take (i + 1) es) e (λ e. Q e m) whole some)
+
+pub adding_end : {E M : Type 0} (old new : List M) (es : List E) (i : ℕ) (Q : E → M → Type 0) → length es ≤ i
+    → Adds old new (λ m. Any (λ e. Q e m) (take i es)) → Adds old new (λ m. Any (λ e. Q e m) es)
+adding_end {E} {M} old new es i Q past adds =
+    subst (λ (l : List E). Adds old new (λ m. Any (λ e. Q e m) l)) (take_all i es past) adds
+
+-- ---- texts
+
+pub text_added : (old new : List (Bor (List ℕ))) (text : Bor (List ℕ)) → new ≡ old ++ text ∷ []
+    → Adds (texts_in old) (texts_in new) (λ t. text.now ≡ t)
+text_added old new text pushed =
+    adds_push (texts_in old) (texts_in new) text.now
+    (ap texts_in pushed ∙ map-append (λ (t : Bor (List ℕ)). t.now) old (text ∷ []))
+
+-- the first texts, with one more
+pub texts_more : (xs : List (Bor (List ℕ))) (i : ℕ) (default : Bor (List ℕ)) → i < length xs
+    → Adds (texts_in (take i xs)) (texts_in (take (i + 1) xs)) (λ t. (get_or xs i default).now ≡ t)
+texts_more xs i default below =
+    let x : Bor (List ℕ) = get_or xs i default in
+    let is : x ≡ get_or xs i x = get_or_default xs i default x below in
+    text_added (take i xs) (take (i + 1) xs) x
+    (take_more xs i x below ∙ ap (λ (g : Bor (List ℕ)). take i xs ++ g ∷ []) (sym is))
+
+-- what is added to an empty list
+pub just_two : {X : Type 0} (old mid new : List X) (P Q : X → Type 0) → old ≡ [] → Adds old mid P → Adds mid new Q
+    → HasJust new (λ x. P x ⊎ Q x)
+just_two {X} old mid new P Q none first second x = (
+  λ h.
+      elim ((second x).0 h) [
+        | inl before ↦
+            elim ((first x).0 before) [
+              | inl old ↦
+                  absurd (let inside = subst (λ (l : List X). Contains l x) none old in let below = inside.1 in omega arith)
+              | inr p ↦ inl p
+            ]
+        | inr q ↦ inr q
+      ],
+  λ h. elim h [ inl p ↦ (second x).1 (inl ((first x).1 (inr p))) | inr q ↦ (second x).1 (inr q) ],
+)

@@ -9,72 +9,74 @@ use Rattle.std.proofs.lemmas.Option.{slice_get_within, slice_get_cases, slice_ge
 use Rattle.cargo_features.specs.declared.packages.Member.{Member}
 use Rattle.cargo_features.specs.declared.packages.Package.{Package}
 use Rattle.declared_features.specs.Lists.{HasJust}
-use Rattle.declared_features.specs.Manifests.{place_of, features_in, features_at}
-use Rattle.declared_features.specs.Members.{PlacesOf, HasListsOf}
+use Rattle.declared_features.specs.Manifests.{feature_index, features_in, features_at}
+use Rattle.declared_features.specs.Members.{FeatureIndexes, HasListsOf}
 use Rattle.declared_features.specs.Edges.{IsOf}
 use Rattle.declared_features.specs.Requests.{IsLink}
 use Rattle.declared_features.specs.Described.{IsDescribed, IsDescribedAt}
-use Rattle.declared_features.specs.Inside.Places.{place_at, AreNamesOf, AreNamesBelow}
+use Rattle.cargo_metadata.specs.Indexes.{index_at}
+use Rattle.declared_features.specs.Inside.Names.{AreNamesOf, AreNamesBelow}
 use Rattle.declared_features.specs.Inside.Links.{IsLinkBelow}
 use Rattle.declared_features.specs.declared.declaring.Declarations.{Declarations}
 use Rattle.declared_features.specs.declared.declaring.Declaring.{Declaring}
 use Rattle.declared_features.specs.declared.declaring.Row.{Row}
 use Rattle.declared_features.specs.declared.entries.FeatureEntry.{FeatureEntry}
 use Rattle.declared_features.specs.declared.linking.Names.{Names}
+use Rattle.declared_features.specs.declared.linking.RequestedFeatures.{RequestedFeatures}
 use Rattle.declared_features.specs.declared.manifests.Declared.{Declared}
 use Rattle.declared_features.specs.declared.manifests.Feature.{Feature}
-use Rattle.declared_features.specs.declared.places.Places.{Places}
+use Rattle.cargo_metadata.specs.declared.indexes.Indexes.{Indexes}
 use Rattle.declared_features.proofs.Collecting.{some_same}
 use Rattle.declared_features.proofs.Matching.{taken, taken_before, taken_here}
 use Rattle.declared_features.proofs.Placing.{get_grown, get_last, get_pushed, length_push}
 
 -- ---- names of features
 
-pub names_none : (declarations : Declarations) (features : Vec Places Global) → features.items ≡ []
+pub names_none : (declarations : Declarations) (features : Vec Indexes Global) → features.items ≡ []
     → AreNamesBelow 0 declarations (record { features = features })
 names_none declarations features none = record {
   count = ap length none;
   each = λ node q below. absurd (omega (arith, below));
 }
 
-in_both : (old new : List Places) (node : ℕ) (q : List ℕ) → node < length old
-    → ((x : Places) → slice_get old node ≡ Some x → slice_get new node ≡ Some x)
-    → option_and_then (λ places. place_at places q) (slice_get new node)
-    ≡ option_and_then (λ places. place_at places q) (slice_get old node)
+in_both : (old new : List Indexes) (node : ℕ) (q : List ℕ) → node < length old
+    → ((x : Indexes) → slice_get old node ≡ Some x → slice_get new node ≡ Some x)
+    → option_and_then (λ indexes. index_at indexes q) (slice_get new node)
+    ≡ option_and_then (λ indexes. index_at indexes q) (slice_get old node)
 in_both old new node q below grown =
     elim (slice_get_cases old node).1 [
       | inl there ↦
-          ap (option_and_then (λ places. place_at places q)) (grown there.0 there.2 ∙ sym there.2)
+          ap (option_and_then (λ indexes. index_at indexes q)) (grown there.0 there.2 ∙ sym there.2)
       | inr past ↦ absurd (let h = past.0 in omega (arith, h, below))
     ]
 
-pub names_more : (declarations : Declarations) (n : ℕ) (old new : Vec Places Global) (places : Places)
-    → new.items ≡ old.items ++ places ∷ []
-    → ((q : List ℕ) → place_at places q ≡ place_of (features_at declarations n) q)
+pub names_more : (declarations : Declarations) (n : ℕ) (old new : Vec Indexes Global) (indexes : Indexes)
+    → new.items ≡ old.items ++ indexes ∷ []
+    → ((q : List ℕ) → index_at indexes q ≡ feature_index (features_at declarations n) q)
     → AreNamesBelow n declarations (record { features = old })
     → AreNamesBelow (n + 1) declarations (record { features = new })
-names_more declarations n old new places pushed these names = record {
-  count = ap length pushed ∙ length_push old.items places ∙ ap (λ (m : ℕ). m + 1) names.count;
+names_more declarations n old new indexes pushed these names = record {
+  count = ap length pushed ∙ length_push old.items indexes ∙ ap (λ (m : ℕ). m + 1) names.count;
   each = λ node q below.
       elim (cases_lt node n) [
         | inl less ↦
             in_both old.items new.items node q (let count = names.count in omega (arith, less, count))
             (λ x is.
-            subst (λ (l : List Places). slice_get l node ≡ Some x) (sym pushed)
-            (get_grown old.items (places ∷ []) node x is))
+            subst (λ (l : List Indexes). slice_get l node ≡ Some x) (sym pushed)
+            (get_grown old.items (indexes ∷ []) node x is))
             ∙ names.each node q less
         | inr past ↦
             let last : node ≡ length old.items = let count = names.count in omega (arith, below, past, count) in
-            let here : slice_get new.items node ≡ Some places =
-            ap (λ (l : List Places). slice_get l node) pushed
-            ∙ ap (λ (k : ℕ). slice_get (old.items ++ places ∷ []) k) last ∙ get_last old.items places in
+            let here : slice_get new.items node ≡ Some indexes =
+            ap (λ (l : List Indexes). slice_get l node) pushed
+            ∙ ap (λ (k : ℕ). slice_get (old.items ++ indexes ∷ []) k) last ∙ get_last old.items indexes in
             let same : node ≡ n = last ∙ names.count in
-            ap (option_and_then (λ places. place_at places q)) here ∙ these q
-            ∙ ap (λ (k : ℕ). place_of (features_at declarations k) q) (sym same)
+            ap (option_and_then (λ indexes. index_at indexes q)) here ∙ these q
+            ∙ ap (λ (k : ℕ). feature_index (features_at declarations k) q) (sym same)
       ];
 }
 
-pub names_all : (declarations : Declarations) (n : ℕ) (names : Names) → length declarations.places.items ≤ n
+pub names_all : (declarations : Declarations) (n : ℕ) (names : Names) → length declarations.package_indexes.items ≤ n
     → AreNamesBelow n declarations names → AreNamesOf declarations names
 names_all declarations n names past below node q =
     elim (cases_lt node n) [
@@ -83,11 +85,11 @@ names_all declarations n names past below node q =
           let count = below.count in
           let no_names : slice_get names.features.items node ≡ None =
           slice_get_past names.features.items node (omega (arith, count, beyond)) in
-          let no_place : slice_get declarations.places.items node ≡ None =
-          slice_get_past declarations.places.items node (omega (arith, past, beyond)) in
-          ap (option_and_then (λ places. place_at places q)) no_names
-          ∙ sym (ap (λ (o : Option ℕ). place_of (features_in (option_and_then
-          (λ p. slice_get declarations.manifests.items p) o)) q) no_place)
+          let no_index : slice_get declarations.package_indexes.items node ≡ None =
+          slice_get_past declarations.package_indexes.items node (omega (arith, past, beyond)) in
+          ap (option_and_then (λ indexes. index_at indexes q)) no_names
+          ∙ sym (ap (λ (o : Option ℕ). feature_index (features_in (option_and_then
+          (λ p. slice_get declarations.manifests.items p) o)) q) no_index)
     ]
 
 -- ---- links of edges to declared dependencies
@@ -230,11 +232,11 @@ lists_more IsMember features i f lists new members below is count pushed just ha
 
 -- ---- all packages
 
-pub described_grown : (graph : Declaring) (at : PlacesOf) (packages new : List Package) (edges newer : List
+pub described_grown : (graph : Declaring) (requested : RequestedFeatures) (at : FeatureIndexes) (packages new : List Package) (edges newer : List
     (Vec ℕ Global))
     (more : List Package) (more_edges : List (Vec ℕ Global)) (node : ℕ) → new ≡ packages ++ more
-    → newer ≡ edges ++ more_edges → IsDescribedAt graph at packages edges node → IsDescribedAt graph at new newer node
-described_grown graph at packages new edges newer more more_edges node is are described = record {
+    → newer ≡ edges ++ more_edges → IsDescribedAt graph requested at packages edges node → IsDescribedAt graph requested at new newer node
+described_grown graph requested at packages new edges newer more more_edges node is are described = record {
   package_at = described.package_at;
   edges_at = described.edges_at;
   there =
@@ -246,16 +248,16 @@ described_grown graph at packages new edges newer more more_edges node is are de
   is = described.is;
 }
 
-pub described_more : (graph : Declaring) (at : PlacesOf) (packages new : List Package) (edges newer : List
+pub described_more : (graph : Declaring) (requested : RequestedFeatures) (at : FeatureIndexes) (packages new : List Package) (edges newer : List
     (Vec ℕ Global))
     (unit : Package) (its : Vec ℕ Global) (n : ℕ) → new ≡ packages ++ unit ∷ [] → newer ≡ edges ++ its ∷ []
-    → length packages ≡ n → length edges ≡ n → IsDescribed graph at n unit its.items
-    → ((node : ℕ) → node < n → IsDescribedAt graph at packages edges node) → (node : ℕ) → node < n + 1
-    → IsDescribedAt graph at new newer node
-described_more graph at packages new edges newer unit its n is are count counts described before node below =
+    → length packages ≡ n → length edges ≡ n → IsDescribed graph requested at n unit its.items
+    → ((node : ℕ) → node < n → IsDescribedAt graph requested at packages edges node) → (node : ℕ) → node < n + 1
+    → IsDescribedAt graph requested at new newer node
+described_more graph requested at packages new edges newer unit its n is are count counts described before node below =
     elim (cases_lt node n) [
       | inl less ↦
-          described_grown graph at packages new edges newer (unit ∷ []) (its ∷ []) node is are (before node less)
+          described_grown graph requested at packages new edges newer (unit ∷ []) (its ∷ []) node is are (before node less)
       | inr past ↦
           let here : node ≡ n = omega (arith, below, past) in
           record {
@@ -267,6 +269,6 @@ described_more graph at packages new edges newer unit its n is are count counts 
             beside =
                 ap (λ (l : List (Vec ℕ Global)). slice_get l node) are
                 ∙ ap (λ (k : ℕ). slice_get (edges ++ its ∷ []) k) (here ∙ sym counts) ∙ get_last edges its;
-            is = subst (λ (k : ℕ). IsDescribed graph at k unit its.items) (sym here) described;
+            is = subst (λ (k : ℕ). IsDescribed graph requested at k unit its.items) (sym here) described;
           }
     ]

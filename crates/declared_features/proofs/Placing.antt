@@ -31,6 +31,15 @@ get_grown {X} xs ys k x is =
     slice_get-get_or (xs ++ ys) k x longer
     ∙ ap (λ (y : X). Some y) (get_or-append xs ys x k below ∙ get_or_from_slice_get xs k x x is)
 
+-- the elements that a function gives for the first elements, and one more
+pub mapped_more : {X Y : Type 0} (f : X → Y) (xs : List X) (i : ℕ) (x : X) (old new : List Y) (y : Y) → i < length xs
+    → x ≡ get_or xs i x → new ≡ old ++ y ∷ [] → y ≡ f x → old ≡ map f (take i xs) → new ≡ map f (take (i + 1) xs)
+mapped_more {X} {Y} f xs i x old new y below is pushed same before =
+    pushed ∙ ap (λ (l : List Y). l ++ y ∷ []) before
+    ∙ ap (λ (z : Y). map f (take i xs) ++ z ∷ []) (same ∙ ap f is)
+    ∙ sym (map-append f (take i xs) (get_or xs i x ∷ []))
+    ∙ ap (λ (l : List X). map f l) (sym (take_more xs i x below))
+
 pub get_last : {X : Type 0} (xs : List X) (x : X) → slice_get (xs ++ x ∷ []) (length xs) ≡ Some x
 get_last {X} xs x =
     let longer : length xs < length (xs ++ x ∷ []) = omega (arith, length_push xs x) in
@@ -62,7 +71,7 @@ element_at xs k below =
 row_grown : (kinds more : List EdgeKind) (links : List LinkedEdge) (k : ℕ) (row : Row) → IsRowAt kinds links k row
     → IsRowAt (kinds ++ more) links k row
 row_grown kinds more links k row is =
-    record { place = is.place; kind = get_grown kinds more k _ is.kind; link = is.link }
+    record { index = is.index; kind = get_grown kinds more k _ is.kind; link = is.link }
 
 -- there is no row without a kind
 rows_within : (kinds : List EdgeKind) (links : List LinkedEdge) (rows : List Row) → AreRowsOf kinds links rows
@@ -95,10 +104,10 @@ rows_none kinds links rows empty none =
 
 pub rows_more : (kinds : List EdgeKind) (links : List LinkedEdge) (rows new : List Row) (kind : EdgeKind)
     (link : LinkedEdge) (row : Row)
-    → new ≡ rows ++ row ∷ [] → slice_get links (length rows) ≡ Some link → row.place ≡ length rows
+    → new ≡ rows ++ row ∷ [] → slice_get links (length rows) ≡ Some link → row.index ≡ length rows
     → kind ≡ (row.edge.now, row.kind) → row.linked ≡ link → AreRowsOf kinds links rows
     → AreRowsOf (kinds ++ kind ∷ []) links new
-rows_more kinds links rows new kind link row pushed there place is linked are =
+rows_more kinds links rows new kind link row pushed there index is linked are =
     let within = rows_within kinds links rows are in
     let linkable = slice_get_within links (length rows) link there in
     let same : length rows ≡ length kinds =
@@ -107,7 +116,7 @@ rows_more kinds links rows new kind link row pushed there place is linked are =
       | inr past ↦ omega (arith, past, within)
     ] in
     let here : IsRowAt (kinds ++ kind ∷ []) links (length rows) row = record {
-      place = place;
+      index = index;
       kind =
           subst (λ (n : ℕ). slice_get (kinds ++ kind ∷ []) n ≡ Some (row.edge.now, row.kind)) (sym same)
           (get_last kinds kind ∙ ap (λ (k : EdgeKind). Some k) is);
@@ -126,17 +135,17 @@ rows_more kinds links rows new kind link row pushed there place is linked are =
     subst (λ (l : List Row). AreRowsOf (kinds ++ kind ∷ []) links l) (sym pushed) all_rows
 
 abbrev pub row_of : Bor Edge → KindRow → LinkedEdge → ℕ → Row
-row_of edge kind linked place = record { edge = edge; kind = kind; linked = linked; place = place }
+row_of edge kind linked index = record { edge = edge; kind = kind; linked = linked; index = index }
 
 -- a row whose edge is copied
 pub rows_pushed : (kinds : List EdgeKind) (links : List LinkedEdge) (rows new : List Row) (edge : Bor Edge)
-    (kind : KindRow) (place : ℕ) (default : LinkedEdge)
-    → new ≡ rows ++ row_of edge kind (get_or links place default) place ∷ [] → place ≡ length rows
-    → place < length links → AreRowsOf kinds links rows → AreRowsOf (kinds ++ of_kind edge.now kind ∷ []) links new
-rows_pushed kinds links rows new edge kind place default pushed same below are =
-    rows_more kinds links rows new (of_kind edge.now kind) (get_or links place default)
-    (row_of edge kind (get_or links place default) place) pushed
-    (ap (λ (n : ℕ). slice_get links n) (sym same) ∙ slice_get-get_or links place default below) same refl refl are
+    (kind : KindRow) (index : ℕ) (default : LinkedEdge)
+    → new ≡ rows ++ row_of edge kind (get_or links index default) index ∷ [] → index ≡ length rows
+    → index < length links → AreRowsOf kinds links rows → AreRowsOf (kinds ++ of_kind edge.now kind ∷ []) links new
+rows_pushed kinds links rows new edge kind index default pushed same below are =
+    rows_more kinds links rows new (of_kind edge.now kind) (get_or links index default)
+    (row_of edge kind (get_or links index default) index) pushed
+    (ap (λ (n : ℕ). slice_get links n) (sym same) ∙ slice_get-get_or links index default below) same refl refl are
 
 -- without a further edge there is no further row
 pub rows_ended : (kinds more : List EdgeKind) (links : List LinkedEdge) (rows : List Row)

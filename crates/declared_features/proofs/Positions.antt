@@ -6,9 +6,7 @@ use Rattle.std.specs.List.{position_from}
 use Rattle.std.proofs.lemmas.List.{take_more, take_all, length-take-le, ext_get_or, length-map, get_or-map}
 use Rattle.std.proofs.lemmas.Slice.Eq.{bytes_eq-Decides}
 use Rattle.declared_features.specs.Edges.{underscored, AreSame}
-use Rattle.declared_features.specs.Manifests.{place_of}
-use Rattle.declared_features.specs.Inside.Places.{placed}
-use Rattle.declared_features.specs.declared.manifests.Feature.{Feature}
+use Rattle.cargo_metadata.specs.Indexes.{indexed}
 
 -- ---- one more element
 
@@ -37,54 +35,53 @@ position_more p i (x ∷ xs) y =
 
 -- ---- one more name
 
-placing : Option ℕ → Bool → ℕ → Option ℕ → Option ℕ
-placing (Some e) test i old = old
-placing None test i old = cond test (Some i) old
+indexing : Option ℕ → Bool → ℕ → Option ℕ → Option ℕ
+indexing (Some e) test i old = old
+indexing None test i old = cond test (Some i) old
 
-placed_as : (earlier : Option ℕ) (name q : List ℕ) (i : ℕ) (old : Option ℕ)
-    → placed earlier name i q old ≡ placing earlier (bytes_eq name q) i old
-unfolding placing
-placed_as (Some e) name q i old = refl
-placed_as None name q i old = refl
+indexed_as : (earlier : Option ℕ) (name q : List ℕ) (i : ℕ) (old : Option ℕ)
+    → indexed earlier name i q old ≡ indexing earlier (bytes_eq name q) i old
+unfolding indexing
+indexed_as (Some e) name q i old = refl
+indexed_as None name q i old = refl
 
 -- a name that had an index keeps it
-placing_after : (earlier old : Option ℕ) (test : Bool) (i : ℕ) → (test ≡ true → earlier ≡ old)
-    → placing earlier test i old ≡ after old (cond test (Some i) None)
-unfolding placing after
-placing_after (Some e) (Some k) test i same = refl
-placing_after (Some e) None true i same = absurd (let h = same refl in cc)
-placing_after (Some e) None false i same = refl
-placing_after None (Some k) true i same = absurd (let h = same refl in cc)
-placing_after None (Some k) false i same = refl
-placing_after None None true i same = refl
-placing_after None None false i same = refl
+indexing_after : (earlier old : Option ℕ) (test : Bool) (i : ℕ) → (test ≡ true → earlier ≡ old)
+    → indexing earlier test i old ≡ after old (cond test (Some i) None)
+unfolding indexing after
+indexing_after (Some e) (Some k) test i same = refl
+indexing_after (Some e) None true i same = absurd (let h = same refl in cc)
+indexing_after (Some e) None false i same = refl
+indexing_after None (Some k) true i same = absurd (let h = same refl in cc)
+indexing_after None (Some k) false i same = refl
+indexing_after None None true i same = refl
+indexing_after None None false i same = refl
 
-pub place_more : (features : List Feature) (i : ℕ) (f : Feature) (old new : List ℕ → Option ℕ) → i < length features
-    → f ≡ get_or features i f → ((q : List ℕ) → new q ≡ placed (old f.name.now) f.name.now i q (old q))
-    → ((q : List ℕ) → old q ≡ place_of (take i features) q) → (q : List ℕ)
-    → new q ≡ place_of (take (i + 1) features) q
-place_more features i f old new below is added before q =
-    let name = f.name.now in
-    let whole : place_of (take (i + 1) features) q ≡ place_of (take i features ++ f ∷ []) q =
-    ap (λ (fs : List Feature). place_of fs q) (take_more features i f below)
-    ∙ ap (λ (g : Feature). place_of (take i features ++ g ∷ []) q) (sym is) in
-    let within : i ≤ length features = omega arith in
-    let count = length-take-le i features within in
-    let pushed = position_more (λ (g : Feature). bytes_eq g.name.now q) 0 (take i features) f in
-    let at : 0 + length (take i features) ≡ i = omega (arith, count) in
-    let shifted : place_of (take i features ++ f ∷ []) q
-    ≡ after (place_of (take i features) q) (cond (bytes_eq name q) (Some i) None) =
-    pushed
-    ∙ ap (λ (n : ℕ). after (place_of (take i features) q) (cond (bytes_eq name q) (Some n) None)) at in
-    added q ∙ placed_as (old name) name q i (old q)
-    ∙ placing_after (old name) (old q) (bytes_eq name q) i (λ h. ap old ((bytes_eq-Decides name q).0 h))
-    ∙ ap (λ (o : Option ℕ). after o (cond (bytes_eq name q) (Some i) None)) (before q)
+pub index_more : {X : Type 0} (name : X → List ℕ) (xs : List X) (i : ℕ) (x : X) (old new : List ℕ → Option ℕ)
+    → i < length xs → x ≡ get_or xs i x → ((q : List ℕ) → new q ≡ indexed (old (name x)) (name x) i q (old q))
+    → ((q : List ℕ) → old q ≡ position_from (λ y. bytes_eq (name y) q) 0 (take i xs)) → (q : List ℕ)
+    → new q ≡ position_from (λ y. bytes_eq (name y) q) 0 (take (i + 1) xs)
+index_more {X} name xs i x old new below is added before q =
+    let n = name x in
+    let at : List X → Option ℕ = λ l. position_from (λ y. bytes_eq (name y) q) 0 l in
+    let whole : at (take (i + 1) xs) ≡ at (take i xs ++ x ∷ []) =
+    ap at (take_more xs i x below) ∙ ap (λ (y : X). at (take i xs ++ y ∷ [])) (sym is) in
+    let within : i ≤ length xs = omega arith in
+    let count = length-take-le i xs within in
+    let pushed = position_more (λ y. bytes_eq (name y) q) 0 (take i xs) x in
+    let there : 0 + length (take i xs) ≡ i = omega (arith, count) in
+    let shifted : at (take i xs ++ x ∷ []) ≡ after (at (take i xs)) (cond (bytes_eq n q) (Some i) None) =
+    pushed ∙ ap (λ (k : ℕ). after (at (take i xs)) (cond (bytes_eq n q) (Some k) None)) there in
+    added q ∙ indexed_as (old n) n q i (old q)
+    ∙ indexing_after (old n) (old q) (bytes_eq n q) i (λ h. ap old ((bytes_eq-Decides n q).0 h))
+    ∙ ap (λ (o : Option ℕ). after o (cond (bytes_eq n q) (Some i) None)) (before q)
     ∙ sym shifted ∙ sym whole
 
-pub place_whole : (features : List Feature) (i : ℕ) (at : List ℕ → Option ℕ) → length features ≤ i
-    → ((q : List ℕ) → at q ≡ place_of (take i features) q) → (q : List ℕ) → at q ≡ place_of features q
-place_whole features i at past before q =
-    before q ∙ ap (λ (fs : List Feature). place_of fs q) (take_all i features past)
+pub index_whole : {X : Type 0} (name : X → List ℕ) (xs : List X) (i : ℕ) (at : List ℕ → Option ℕ) → length xs ≤ i
+    → ((q : List ℕ) → at q ≡ position_from (λ y. bytes_eq (name y) q) 0 (take i xs)) → (q : List ℕ)
+    → at q ≡ position_from (λ y. bytes_eq (name y) q) 0 xs
+index_whole {X} name xs i at past before q =
+    before q ∙ ap (λ (l : List X). position_from (λ y. bytes_eq (name y) q) 0 l) (take_all i xs past)
 
 -- ---- names that are the same but for dashes
 

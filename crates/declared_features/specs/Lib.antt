@@ -6,5 +6,6 @@ pub mod Members
 pub mod Edges
 pub mod Rows
 pub mod Requests
+pub mod Requested
 pub mod Described
 pub mod Inside

@@ -1,18 +1,29 @@
 -- What the packages of nodes declare.
-use Rattle.std.specs.Prelude.{ℕ, List, [], Option, Some, None, bytes_eq, slice_get, option_and_then}
+use Rattle.std.specs.Prelude.{ℕ, List, [], Option, Some, None, bytes_eq, slice_get, length}
+use Rattle.std.specs.Prelude.{option_and_then, unwrap_or}
 use Rattle.std.specs.List.{position_from}
+use Rattle.cargo_metadata.specs.declared.nodes.Node.{Node}
+use Rattle.cargo_metadata.specs.declared.packages.Package.{Package}
 use Rattle.declared_features.specs.declared.declaring.Declarations.{Declarations}
 use Rattle.declared_features.specs.declared.manifests.Feature.{Feature}
 use Rattle.declared_features.specs.declared.manifests.Declared.{Declared}
 use Rattle.declared_features.specs.declared.manifests.Manifest.{Manifest}
 
+-- the index of the first package with an id
+abbrev pub index_of_id : List Package → List ℕ → Option ℕ
+index_of_id packages q = position_from (λ p. bytes_eq p.id.now q) 0 packages
+
+-- the index of the package of a node, or that after the last one
+abbrev pub package_index : List Package → Node → ℕ
+package_index packages node = unwrap_or (index_of_id packages node.id.now) (length packages)
+
 -- the index of the first feature with a name
-abbrev pub place_of : List Feature → List ℕ → Option ℕ
-place_of features q = position_from (λ f. bytes_eq f.name.now q) 0 features
+abbrev pub feature_index : List Feature → List ℕ → Option ℕ
+feature_index features q = position_from (λ f. bytes_eq f.name.now q) 0 features
 
 abbrev pub manifest_at : Declarations → ℕ → Option Manifest
 manifest_at declarations node =
-    option_and_then (λ p. slice_get declarations.manifests.items p) (slice_get declarations.places.items node)
+    option_and_then (λ p. slice_get declarations.manifests.items p) (slice_get declarations.package_indexes.items node)
 
 abbrev pub features_in : Option Manifest → List Feature
 features_in None = []

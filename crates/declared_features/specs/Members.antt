@@ -10,36 +10,36 @@ use Rattle.cargo_features.specs.declared.packages.Member.{Member}
 use Rattle.cargo_features.specs.declared.packages.Member.TheVariants as member
 
 -- where each node has the feature with a name
-abbrev pub PlacesOf : Type 0
-PlacesOf = ℕ → List ℕ → Option ℕ
+abbrev pub FeatureIndexes : Type 0
+FeatureIndexes = ℕ → List ℕ → Option ℕ
 
 -- `f`: the feature of this name
-abbrev pub IsOwn : PlacesOf → ℕ → FeatureEntry → Member → Type 0
-IsOwn at node (entry.Feature f) (member.Feature place) = at node f.now ≡ Some place
+abbrev pub IsOwn : FeatureIndexes → ℕ → FeatureEntry → Member → Type 0
+IsOwn at node (entry.Feature f) (member.Feature index) = at node f.now ≡ Some index
 IsOwn at node _ _ = ⊥
 
--- the dependency at the index i has the name, and its package has the feature g at this place, if at all
-pub record IsNamed (at : PlacesOf) (i : ℕ) (d : Named) (name g : List ℕ) (j : ℕ) (place : Option ℕ) : Type 0 where
+-- the dependency at the index i has the name, and its package has the feature g at this index, if at all
+pub record IsNamed (at : FeatureIndexes) (i : ℕ) (d : Named) (name g : List ℕ) (j : ℕ) (found : Option ℕ) : Type 0 where
   pub index : j ≡ i
   pub named : d.name.now ≡ name
-  pub feature : at d.dependency.to g ≡ place
+  pub feature : at d.dependency.to g ≡ found
 
 -- `dep:d` and `d/g`, and `d?/g` if the package of `d` has `g`. Without a feature `g`, `d/g` is `dep:d`.
-abbrev pub IsOfDependency : PlacesOf → FeatureEntry → ℕ → Named → Member → Type 0
+abbrev pub IsOfDependency : FeatureIndexes → FeatureEntry → ℕ → Named → Member → Type 0
 IsOfDependency at (entry.Dependency name) i d (member.Dependency j) = (j ≡ i) × (d.name.now ≡ name.now)
 IsOfDependency at (entry.Strong name g) i d (member.Dependency j) = IsNamed at i d name.now g.now j None
-IsOfDependency at (entry.Strong name g) i d (member.Strong j place) = IsNamed at i d name.now g.now j (Some place)
-IsOfDependency at (entry.Weak name g) i d (member.Weak j place) = IsNamed at i d name.now g.now j (Some place)
+IsOfDependency at (entry.Strong name g) i d (member.Strong j index) = IsNamed at i d name.now g.now j (Some index)
+IsOfDependency at (entry.Weak name g) i d (member.Weak j index) = IsNamed at i d name.now g.now j (Some index)
 IsOfDependency at _ i d _ = ⊥
 
 -- the entry, in a list of the node's package, stands for the member: a feature of the package, or one of a dependency
 -- of
 -- that name
-abbrev pub StandsFor : PlacesOf → ℕ → List Named → FeatureEntry → Member → Type 0
+abbrev pub StandsFor : FeatureIndexes → ℕ → List Named → FeatureEntry → Member → Type 0
 StandsFor at node named entry m = IsOwn at node entry m ⊎ SomeAt named (λ i d. IsOfDependency at entry i d m)
 
 -- one of the entries stands for it
-abbrev pub SomeStandsFor : PlacesOf → ℕ → List Named → List FeatureEntry → Member → Type 0
+abbrev pub SomeStandsFor : FeatureIndexes → ℕ → List Named → List FeatureEntry → Member → Type 0
 SomeStandsFor at node named entries m = Any (λ entry. StandsFor at node named entry m) entries
 
 -- each feature has a list at its index, with just the members that its entries stand for

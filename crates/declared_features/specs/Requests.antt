@@ -4,7 +4,7 @@ use Rattle.std.specs.Option.{option_copied}
 use Rattle.declared_features.specs.Lists.{HasJust, MatchesJust}
 use Rattle.declared_features.specs.Edges.{IsOf}
 use Rattle.declared_features.specs.Manifests.{dependencies_at}
-use Rattle.declared_features.specs.Members.{PlacesOf}
+use Rattle.declared_features.specs.Members.{FeatureIndexes}
 use Rattle.declared_features.specs.Rows.{kinds_at, links_at, AreRowsOf}
 use Rattle.declared_features.specs.declared.declaring.Declaring.{Declaring}
 use Rattle.declared_features.specs.declared.declaring.Row.{Row}
@@ -15,18 +15,18 @@ use Rattle.declared_features.specs.declared.manifests.Declared.{Declared}
 abbrev pub toml_name : Declared → List ℕ
 toml_name declared = unwrap_or (option_copied declared.rename) declared.name.now
 
--- the dependency uses `default`, which is at this place of its package
-pub record IsDefault (at : PlacesOf) (to : ℕ) (declared : Declared) (place : ℕ) : Type 0 where
+-- the dependency uses `default`, which is at this index of its package
+pub record IsDefault (at : FeatureIndexes) (to : ℕ) (declared : Declared) (index : ℕ) : Type 0 where
   pub uses : declared.uses_default ≡ true
-  pub feature : at to (codes "default") ≡ Some place
+  pub feature : at to (codes "default") ≡ Some index
 
--- the dependency requests the feature at this place of its package: one that it lists, or `default`
-abbrev pub IsRequested : PlacesOf → ℕ → Declared → ℕ → Type 0
-IsRequested at to declared place =
-    Any (λ feature. at to feature.now ≡ Some place) declared.features.items ⊎ IsDefault at to declared place
+-- the dependency requests the feature at this index of its package: one that it lists, or `default`
+abbrev pub IsRequested : FeatureIndexes → ℕ → Declared → ℕ → Type 0
+IsRequested at to declared index =
+    Any (λ feature. at to feature.now ≡ Some index) declared.features.items ⊎ IsDefault at to declared index
 
 -- the dependency of a node's package, as it is declared, with its edge
-pub record IsNamedOf (at : PlacesOf) (node : ℕ) (row : Row) (declared : Declared) (found : Named) : Type 0 where
+pub record IsNamedOf (at : FeatureIndexes) (node : ℕ) (row : Row) (declared : Declared) (found : Named) : Type 0 where
   pub name : found.name.now ≡ toml_name declared
   pub to : found.dependency.to ≡ row.linked.to
   pub kind : found.dependency.kind ≡ row.linked.kind
@@ -34,7 +34,7 @@ pub record IsNamedOf (at : PlacesOf) (node : ℕ) (row : Row) (declared : Declar
   pub holds : found.dependency.holds ≡ row.linked.holds
   pub features : HasJust found.dependency.features.items (IsRequested at row.linked.to declared)
   pub own : found.dependency.named ≡ at node (toml_name declared)
-  pub edge : found.edge ≡ row.place
+  pub edge : found.edge ≡ row.index
 
 -- the edge is one of the rows, belongs to the dependency, and this is one of the declared ones
 pub record IsLink (graph : Declaring) (node : ℕ) (rows : List Row) (declared : List Declared) (link : Row × Declared)
@@ -44,7 +44,7 @@ pub record IsLink (graph : Declaring) (node : ℕ) (rows : List Row) (declared :
   pub belongs : IsOf graph node link.0 link.1
 
 -- they are the dependencies that the package of a node declares and that have edges
-pub record AreDependenciesOf (graph : Declaring) (at : PlacesOf) (node : ℕ) (found : List Named) : Type 0 where
+pub record AreDependenciesOf (graph : Declaring) (at : FeatureIndexes) (node : ℕ) (found : List Named) : Type 0 where
   pub rows : List Row
   pub rows_are : AreRowsOf (kinds_at graph.metadata.now node) (links_at graph.linked.now node) rows
   pub matches : MatchesJust (IsLink graph node rows (dependencies_at graph.declared.now node))

@@ -40,7 +40,7 @@ links_at linked node = links_in (slice_get linked.packages.items node)
 
 -- the row is that of the kind at the index k
 pub record IsRowAt (kinds : List EdgeKind) (links : List LinkedEdge) (k : ℕ) (row : Row) : Type 0 where
-  pub place : row.place ≡ k
+  pub index : row.index ≡ k
   pub kind : slice_get kinds k ≡ Some (of_kind row.edge.now row.kind)
   pub link : slice_get links k ≡ Some row.linked
 

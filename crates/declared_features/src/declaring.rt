@@ -1,15 +1,18 @@
 //! A graph of packages with what each of them declares, and the edges of declared dependencies.
 
-ghost use Rattle.std.specs.Prelude.{◌≡◌, ◌==◌, ◌↔◌, ◌++◌, cond, length, IsTrue, IfOk, OnOk, List};
+ghost use Rattle.std.specs.Prelude.{◌≡◌, ◌==◌, ◌↔◌, ◌++◌, ℕ, cond, codes, length, map, IsTrue, IfOk, OnOk, List};
 ghost use Rattle.std.specs.Option.{option_copied};
-ghost use Rattle.declared_features.specs.Manifests.{manifest_at};
+ghost use Rattle.serde_json.specs.View.{view};
+ghost use Rattle.cargo_metadata.specs.Indexes.{index_at};
+ghost use Rattle.cargo_metadata.specs.Rows.{AreRowsAt};
+ghost use Rattle.declared_features.specs.Documents.{IsManifest};
+ghost use Rattle.declared_features.specs.Manifests.{index_of_id, package_index, manifest_at};
 ghost use Rattle.declared_features.specs.Rows.{EdgeKind, kinds_by, kinds_at, links_at, AreRowsOf};
 ghost use Rattle.declared_features.specs.Edges.{AreSame, IsLike, IsOf, name_at, code_name};
 
 use crate::manifests::{Declared, Manifest, Refusal, read_manifests};
-use crate::places::Places;
 use cargo_metadata::graphs::Linked;
-use cargo_metadata::{Dependency as Edge, KindRow, Metadata};
+use cargo_metadata::{Dependency as Edge, Indexes, KindRow, Metadata, Package};
 use package_graphs::Dependency as LinkedEdge;
 use serde_json::Value;
 use std::alloc::{AllocError, Global};
@@ -20,23 +23,34 @@ pub struct Declarations<'a> {
     /// In the order of the document's packages.
     manifests: Vec<Manifest<'a>>,
     /// For each node, the index of its package among those of the document.
-    places: Vec<usize>,
+    package_indexes: Vec<usize>,
     /// The names of the packages without a library, sorted. Cargo gives no edge to a dependency on such a package.
     without_library: Vec<&'a str>,
 }
 
+/// Returns the indexes of the packages by id.
+fn indexes_of_ids<'a>(alloc: Global, packages: &[Package<'a>]) -> Result<Indexes<'a>, AllocError>
+    ensures { IfOk result (λ ids. (q : List ℕ) → index_at ids q ≡ index_of_id packages.now q) }
+{
+    let mut ids = Indexes::new(alloc);
+    'packages: for i in 0..packages.len() {
+        ids.add(packages[i].id, i)?;
+    }
+    Ok(ids)
+}
+
 /// Returns for each node the index of its package, or that after the last one if there is none.
-fn places_of(alloc: Global, metadata: &Metadata<'_>) -> Result<Vec<usize>, AllocError> {
+fn package_indexes<'a>(alloc: Global, metadata: &Metadata<'a>) -> Result<Vec<usize>, AllocError>
+    ensures { IfOk result (λ indexes. indexes.items
+        ≡ map (package_index metadata.now.packages.items) metadata.now.nodes.items) }
+{
     let count = metadata.packages.len();
-    let mut ids = Places::new(alloc);
-    'packages: for i in 0..count {
-        ids.add(metadata.packages[i].id, i)?;
+    let ids = indexes_of_ids(alloc, &metadata.packages)?;
+    let mut indexes = Vec::new(alloc);
+    'nodes: for i in 0..metadata.nodes.len() {
+        indexes.push(ids.find(metadata.nodes[i].id).unwrap_or(count))?;
     }
-    let mut places = Vec::new(alloc);
-    for node in &metadata.nodes {
-        places.push(ids.find(node.id).unwrap_or(count))?;
-    }
-    Ok(places)
+    Ok(indexes)
 }
 
 /// Returns the names of the packages without a library, sorted.
@@ -60,12 +74,16 @@ fn declarations_of<'a>(
     alloc: Global,
     metadata: &Metadata<'a>,
     manifests: Vec<Manifest<'a>>,
-) -> Result<Declarations<'a>, AllocError> {
-    let places = places_of(alloc, metadata)?;
+) -> Result<Declarations<'a>, AllocError>
+    ensures manifests { IfOk result (λ declarations. declarations.manifests.items ≡ manifests.entry.items) }
+    ensures packages { IfOk result (λ declarations. declarations.package_indexes.items
+        ≡ map (package_index metadata.now.packages.items) metadata.now.nodes.items) }
+{
+    let package_indexes = package_indexes(alloc, metadata)?;
     let without_library = without_library(alloc, metadata, &manifests)?;
     Ok(Declarations {
         manifests,
-        places,
+        package_indexes,
         without_library,
     })
 }
@@ -80,7 +98,15 @@ impl<'a> Declarations<'a> {
         alloc: Global,
         document: &'a Value,
         metadata: &Metadata<'a>,
-    ) -> Result<Declarations<'a>, Refusal> {
+    ) -> Result<Declarations<'a>, Refusal>
+        // Each package of the document has a manifest: the dependencies, the features and the library that its object
+        // declares.
+        ensures manifests { IfOk result
+            (λ it. AreRowsAt IsManifest (codes "packages") (view document.now) it.manifests.items) }
+        // The manifest of a node is that of the first package with its id.
+        ensures packages { IfOk result (λ it. it.package_indexes.items
+            ≡ map (package_index metadata.now.packages.items) metadata.now.nodes.items) }
+    {
         let manifests = read_manifests(alloc, document)?;
         match declarations_of(alloc, metadata, manifests) {
             Ok(declarations) => Ok(declarations),
@@ -90,9 +116,9 @@ impl<'a> Declarations<'a> {
 
     /// Returns the number of nodes.
     pub fn node_count(&self) -> usize
-        ensures { result ≡ length self.now.places.items }
+        ensures { result ≡ length self.now.package_indexes.items }
     {
-        self.places.len()
+        self.package_indexes.len()
     }
 
     /// Returns what the package of a node declares.
@@ -100,7 +126,7 @@ impl<'a> Declarations<'a> {
         // The manifest is that of the package of the node.
         ensures { option_copied result ≡ manifest_at self.now node }
     {
-        self.manifests.get(*self.places.get(node)?)
+        self.manifests.get(*self.package_indexes.get(node)?)
     }
 
     /// Returns whether Cargo gives no edge to a declared dependency, since its package has no library.
@@ -127,7 +153,7 @@ pub struct Row<'m, 'a> {
     pub kind: KindRow<'a>,
     pub linked: LinkedEdge,
     /// The index of the dependency among those of the linked package.
-    pub place: usize,
+    pub index: usize,
 }
 
 impl<'m, 'a> Row<'m, 'a> {
@@ -149,17 +175,17 @@ fn push_rows<'m, 'a>(
         → AreRowsOf (kinds ++ kinds_by edge.now) links.now rows.new.items) }
 {
     'kinds: for i in 0..edge.kinds.len() {
-        let place = rows.len();
-        if place >= links.len() {
+        let index = rows.len();
+        if index >= links.len() {
             return Ok(());
         }
         let kind = edge.kinds[i];
-        let linked = links[place];
+        let linked = links[index];
         rows.push(Row {
             edge,
             kind,
             linked,
-            place,
+            index,
         })?;
     }
     Ok(())

@@ -11,7 +11,7 @@ use serde_json::Value;
 use std::alloc::{AllocError, Global};
 use std::collections::BTreeSet;
 
-/// A declared dependency that has no edge, and the place of the node whose package declares it.
+/// A declared dependency that has no edge, and the index of the node whose package declares it.
 #[derive(Clone, Copy, Drop)]
 pub struct Lacking<'m, 'a> {
     pub node: usize,

@@ -4,16 +4,13 @@
 
 mod declaring;
 mod entries;
-mod fields;
 mod lacking;
 mod linking;
 mod manifests;
-mod places;
 mod requested;
 
 pub use declaring::{Declarations, Declaring, Row, rows_of};
 pub use entries::{FeatureEntry, entry_of};
-pub use fields::{Wanted, Wrong, list_at, text_at};
 pub use lacking::{Lacking, first_filtered, first_lacking};
 pub use linking::{Described, RequestedFeatures, described_features};
 pub use manifests::{Declared, Feature, InDeclared, InManifest, Manifest, Refusal};

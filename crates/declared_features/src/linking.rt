@@ -1,20 +1,23 @@
 //! The declarations of packages, translated into the input of the feature resolver: names become indexes.
 
-ghost use Rattle.std.specs.Prelude.{◌≡◌, ◌<◌, ◌↔◌, ℕ, List, Some, IfOk, OnOk, length, map};
+ghost use Rattle.std.specs.Prelude.{◌≡◌, ◌<◌, ◌-◌, ◌↔◌, ◌∷◌, ℕ, List, [], Some, IfOk, OnOk, cond, length, map};
 ghost use Rattle.std.specs.Option.{option_copied};
 ghost use Rattle.declared_features.specs.Lists.{HasJust, Adds};
-ghost use Rattle.declared_features.specs.Manifests.{place_of, features_in, features_at};
+ghost use Rattle.declared_features.specs.Manifests.{feature_index, features_in, features_at};
+ghost use Rattle.declared_features.specs.Edges.{name_at};
+ghost use Rattle.declared_features.specs.Requested.{is_concerned, IsOneOfAll, AreRequested, HasLast};
 ghost use Rattle.declared_features.specs.Described.{IsDescribed, AreDescribed, KeepsDescribed};
 ghost use Rattle.declared_features.specs.Members.{IsOwn, IsOfDependency, StandsFor, SomeStandsFor, HasListsOf};
 ghost use Rattle.declared_features.specs.Requests.{toml_name, IsDefault, IsRequested, IsNamedOf, AreDependenciesOf};
-ghost use Rattle.declared_features.specs.Inside.Places.{place_at, place_in, AreNamesOf};
+ghost use Rattle.cargo_metadata.specs.Indexes.{index_at};
+ghost use Rattle.declared_features.specs.Inside.Names.{index_in, AreNamesOf};
 
 use crate::declaring::{Declarations, Declaring, Row, rows_of};
 use crate::entries::FeatureEntry;
 use crate::manifests::{Declared, Manifest};
-use crate::places::Places;
 use crate::requested::starter_of;
 use cargo_features::{Dependency, Member, Package};
+use cargo_metadata::Indexes;
 use package_graphs::Package as Unit;
 use std::alloc::{AllocError, Global};
 
@@ -57,25 +60,25 @@ pub struct Described {
 #[derive(Drop)]
 struct Names<'a> {
     /// For each node, the indexes of its features.
-    features: Vec<Places<'a>>,
+    features: Vec<Indexes<'a>>,
 }
 
 /// Returns the indexes of the features of a package by name. A package without a manifest has none.
-fn places_of_features<'a>(
+fn feature_indexes<'a>(
     alloc: Global,
     manifest: Option<&Manifest<'a>>,
-) -> Result<Places<'a>, AllocError>
+) -> Result<Indexes<'a>, AllocError>
     ensures { IfOk result
-        (λ places. (q : List ℕ) → place_at places q ≡ place_of (features_in (option_copied manifest.entry)) q) }
+        (λ indexes. (q : List ℕ) → index_at indexes q ≡ feature_index (features_in (option_copied manifest.entry)) q) }
 {
-    let mut places = Places::new(alloc);
+    let mut indexes = Indexes::new(alloc);
     let Some(manifest) = manifest else {
-        return Ok(places);
+        return Ok(indexes);
     };
     'features: for i in 0..manifest.features.len() {
-        places.add(manifest.features[i].name, i)?;
+        indexes.add(manifest.features[i].name, i)?;
     }
-    Ok(places)
+    Ok(indexes)
 }
 
 impl<'a> Names<'a> {
@@ -85,30 +88,30 @@ impl<'a> Names<'a> {
     {
         let mut features = Vec::new(alloc);
         'nodes: for node in 0..declarations.node_count() {
-            let places = places_of_features(alloc, declarations.manifest(node))?;
-            features.push(places)?;
+            let indexes = feature_indexes(alloc, declarations.manifest(node))?;
+            features.push(indexes)?;
         }
         Ok(Names { features })
     }
 
     /// Returns the index of a feature of the package of a node.
     fn feature(&self, node: usize, name: &'a str) -> Option<usize>
-        ensures { result ≡ place_in self.now node name.now }
+        ensures { result ≡ index_in self.now node name.now }
     {
         match self.features.get(node) {
-            Some(places) => places.find(name),
+            Some(indexes) => indexes.find(name),
             None => None,
         }
     }
 }
 
 /// Appends an index, if there is one.
-fn push_place(place: Option<usize>, places: &mut Vec<usize>) -> Result<(), AllocError>
-    ensures { OnOk result (Adds places.old.items places.new.items (λ x. place ≡ Some x)) }
+fn push_index(index: Option<usize>, indexes: &mut Vec<usize>) -> Result<(), AllocError>
+    ensures { OnOk result (Adds indexes.old.items indexes.new.items (λ x. index ≡ Some x)) }
 {
-    match place {
-        Some(place) => {
-            places.push(place)?;
+    match index {
+        Some(index) => {
+            indexes.push(index)?;
             Ok(())
         }
         None => Ok(()),
@@ -130,7 +133,7 @@ fn push_member(member: Option<Member>, members: &mut Vec<Member>) -> Result<(), 
 
 /// Returns the index of the feature `default`, if a declared dependency uses that and the package has it.
 fn default_requested<'a>(names: &Names<'a>, to: usize, declared: &Declared<'a>) -> Option<usize>
-    ensures { (place : ℕ) → (result ≡ Some place) ↔ IsDefault (place_in names.now) to declared.now place }
+    ensures { (index : ℕ) → (result ≡ Some index) ↔ IsDefault (index_in names.now) to declared.now index }
 {
     if !declared.uses_default {
         return None;
@@ -145,14 +148,14 @@ fn features_requested<'a>(
     to: usize,
     declared: &Declared<'a>,
 ) -> Result<Vec<usize>, AllocError>
-    ensures { IfOk result (λ features. HasJust features.items (IsRequested (place_in names.now) to declared.now)) }
+    ensures { IfOk result (λ features. HasJust features.items (IsRequested (index_in names.now) to declared.now)) }
 {
     let mut features = Vec::new(alloc);
     'features: for i in 0..declared.features.len() {
         let feature = declared.features[i];
-        push_place(names.feature(to, feature), &mut features)?;
+        push_index(names.feature(to, feature), &mut features)?;
     }
-    push_place(default_requested(names, to, declared), &mut features)?;
+    push_index(default_requested(names, to, declared), &mut features)?;
     Ok(features)
 }
 
@@ -171,7 +174,7 @@ fn named_of<'a>(
     row: &Row<'_, 'a>,
     declared: &Declared<'a>,
 ) -> Result<Named<'a>, AllocError>
-    ensures { IfOk result (IsNamedOf (place_in names.now) node row.now declared.now) }
+    ensures { IfOk result (IsNamedOf (index_in names.now) node row.now declared.now) }
 {
     let name = toml_name(declared);
     Ok(Named {
@@ -184,7 +187,7 @@ fn named_of<'a>(
             features: features_requested(alloc, names, row.linked.to, declared)?,
             named: names.feature(node, name),
         },
-        edge: row.place,
+        edge: row.index,
     })
 }
 
@@ -195,7 +198,7 @@ fn dependencies_of<'a>(
     names: &Names<'a>,
     node: usize,
 ) -> Result<Vec<Named<'a>>, AllocError>
-    ensures { IfOk result (λ found. AreDependenciesOf graph.now (place_in names.now) node found.items) }
+    ensures { IfOk result (λ found. AreDependenciesOf graph.now (index_in names.now) node found.items) }
 {
     let mut found = Vec::new(alloc);
     let rows = rows_of(alloc, graph.metadata, graph.linked, node)?;
@@ -215,6 +218,19 @@ fn dependencies_of<'a>(
     Ok(found)
 }
 
+/// Appends all features of a package with this many features, if they are requested.
+fn push_all(are_requested: bool, count: usize, members: &mut Vec<Member>) -> Result<(), AllocError>
+    ensures { OnOk result (Adds members.old.items members.new.items (IsOneOfAll are_requested count)) }
+{
+    if !are_requested {
+        return Ok(());
+    }
+    'features: for i in 0..count {
+        members.push(Member::Feature(i))?;
+    }
+    Ok(())
+}
+
 /// The package of a node: the names of features, and the dependencies that are in the graph.
 #[derive(Clone, Copy, Drop)]
 struct Lists<'m, 'a> {
@@ -226,7 +242,7 @@ struct Lists<'m, 'a> {
 impl<'a> Named<'a> {
     /// Returns the member that an entry stands for, of this dependency at an index.
     fn member(&self, names: &Names<'a>, entry: FeatureEntry<'a>, i: usize) -> Option<Member>
-        ensures { (m : Member) → (result ≡ Some m) ↔ IsOfDependency (place_in names.now) entry.entry i self.now m }
+        ensures { (m : Member) → (result ≡ Some m) ↔ IsOfDependency (index_in names.now) entry.entry i self.now m }
     {
         match entry {
             FeatureEntry::Feature(_) => None,
@@ -241,7 +257,7 @@ impl<'a> Named<'a> {
                     return None;
                 }
                 match names.feature(self.dependency.to, feature) {
-                    Some(place) => Some(Member::Strong(i, place)),
+                    Some(index) => Some(Member::Strong(i, index)),
                     None => Some(Member::Dependency(i)),
                 }
             }
@@ -250,7 +266,7 @@ impl<'a> Named<'a> {
                     return None;
                 }
                 match names.feature(self.dependency.to, feature) {
-                    Some(place) => Some(Member::Weak(i, place)),
+                    Some(index) => Some(Member::Weak(i, index)),
                     None => None,
                 }
             }
@@ -262,15 +278,15 @@ impl<'m, 'a> Lists<'m, 'a> {
     /// Appends the member that an entry stands for, if it is a feature of the package itself.
     fn push_own(&self, entry: FeatureEntry<'a>, members: &mut Vec<Member>) -> Result<(), AllocError>
         ensures { OnOk result (Adds members.old.items members.new.items
-            (IsOwn (place_in self.now.names.now) self.now.node entry.entry)) }
+            (IsOwn (index_in self.now.names.now) self.now.node entry.entry)) }
     {
         let FeatureEntry::Feature(name) = entry else {
             return Ok(());
         };
-        let Some(place) = self.names.feature(self.node, name) else {
+        let Some(index) = self.names.feature(self.node, name) else {
             return Ok(());
         };
-        members.push(Member::Feature(place))?;
+        members.push(Member::Feature(index))?;
         Ok(())
     }
 
@@ -281,7 +297,7 @@ impl<'m, 'a> Lists<'m, 'a> {
         members: &mut Vec<Member>,
     ) -> Result<(), AllocError>
         ensures { OnOk result (Adds members.old.items members.new.items
-            (StandsFor (place_in self.now.names.now) self.now.node self.now.found.now entry.entry)) }
+            (StandsFor (index_in self.now.names.now) self.now.node self.now.found.now entry.entry)) }
     {
         'found: for i in 0..self.found.len() {
             let member = self.found[i].member(self.names, entry, i);
@@ -298,7 +314,7 @@ impl<'m, 'a> Lists<'m, 'a> {
         entries: &[FeatureEntry<'a>],
     ) -> Result<Vec<Member>, AllocError>
         ensures { IfOk result (λ members. HasJust members.items
-            (SomeStandsFor (place_in self.now.names.now) self.now.node self.now.found.now entries.now)) }
+            (SomeStandsFor (index_in self.now.names.now) self.now.node self.now.found.now entries.now)) }
     {
         let mut members = Vec::new(alloc);
         'entries: for i in 0..entries.len() {
@@ -307,20 +323,20 @@ impl<'m, 'a> Lists<'m, 'a> {
         Ok(members)
     }
 
-    /// Returns the members for the features that are requested of a root with this many features.
+    /// Returns the members for the features that are requested of a package with this many features.
     fn members_requested(
         &self,
         alloc: Global,
-        package: &str,
+        called: &str,
         count: usize,
         requested: &RequestedFeatures<'a>,
-    ) -> Result<Vec<Member>, AllocError> {
-        let mut members = self.members(alloc, &requested.entries(alloc, package, self.node)?)?;
-        if requested.all {
-            for i in 0..count {
-                members.push(Member::Feature(i))?;
-            }
-        }
+    ) -> Result<Vec<Member>, AllocError>
+        ensures { IfOk result (λ members. AreRequested requested.now called.now
+            (index_in self.now.names.now) self.now.node self.now.found.now count members.items) }
+    {
+        let entries = requested.entries(alloc, called, self.node)?;
+        let mut members = self.members(alloc, &entries)?;
+        push_all(requested.all, count, &mut members)?;
         Ok(members)
     }
 
@@ -330,8 +346,10 @@ impl<'m, 'a> Lists<'m, 'a> {
         alloc: Global,
         manifest: Option<&Manifest<'a>>,
     ) -> Result<Vec<Vec<Member>>, AllocError>
-        ensures { IfOk result (λ features. HasListsOf
-            (SomeStandsFor (place_in self.now.names.now) self.now.node self.now.found.now)
+        ensures count { IfOk result
+            (λ features. length features.items ≡ length (features_in (option_copied manifest.entry))) }
+        ensures lists { IfOk result (λ features. HasListsOf
+            (SomeStandsFor (index_in self.now.names.now) self.now.node self.now.found.now)
             (features_in (option_copied manifest.entry)) features.items) }
     {
         let mut features = Vec::new(alloc);
@@ -343,14 +361,6 @@ impl<'m, 'a> Lists<'m, 'a> {
             features.push(members)?;
         }
         Ok(features)
-    }
-}
-
-/// Returns a feature that is requested of a root, without the root's own name before it.
-pub fn text_requested<'a>(root: &str, text: &'a str) -> &'a str {
-    match text.split_once('/') {
-        Some((first, feature)) if first == root => feature,
-        _ => text,
     }
 }
 
@@ -379,9 +389,13 @@ fn lists_of<'a>(
     unit: &Unit,
     requested: &RequestedFeatures<'a>,
 ) -> Result<Vec<Vec<Member>>, AllocError>
-    ensures { IfOk result (λ features. HasListsOf
-        (SomeStandsFor (place_in lists.now.names.now) lists.now.node lists.now.found.now)
+    ensures lists { IfOk result (λ features. HasListsOf
+        (SomeStandsFor (index_in lists.now.names.now) lists.now.node lists.now.found.now)
         (features_at graph.now.declared.now lists.now.node) features.items) }
+    ensures last { IfOk result (λ features. let count = length (features_at graph.now.declared.now lists.now.node) in
+        HasLast (is_concerned requested.now lists.now.node unit.now)
+        (AreRequested requested.now (name_at graph.now lists.now.node) (index_in lists.now.names.now) lists.now.node
+        lists.now.found.now count) count features.items) }
 {
     let mut features = lists.of_features(alloc, graph.declared.manifest(lists.node))?;
     if !requested.concerns(lists.node, unit) {
@@ -392,6 +406,17 @@ fn lists_of<'a>(
     let members = lists.members_requested(alloc, package, count, requested)?;
     features.push(members)?;
     Ok(features)
+}
+
+/// Returns the features that are requested of a package: the last of this many, if it is a root.
+fn requests_of_root(alloc: Global, is_root: bool, count: usize) -> Result<Vec<usize>, AllocError>
+    ensures { IfOk result (λ requested. requested.items ≡ cond is_root (count - 1 ∷ []) []) }
+{
+    let mut requested = Vec::new(alloc);
+    if is_root {
+        requested.push(count.saturating_sub(1))?;
+    }
+    Ok(requested)
 }
 
 /// Returns the package of a node, as input of the feature resolver, and for each dependency its index among those of
@@ -405,7 +430,8 @@ fn described_package<'a>(
 ) -> Result<(Package, Vec<usize>), AllocError>
     requires { node < length graph.now.linked.now.packages.items }
     ensures { IfOk result
-        (λ described. IsDescribed graph.now (place_in names.now) node described.0 described.1.items) }
+        (λ described. IsDescribed graph.now requested.now (index_in names.now) node described.0
+        described.1.items) }
 {
     let unit = &graph.linked.packages[node];
     let found = dependencies_of(alloc, graph, names, node)?;
@@ -415,10 +441,7 @@ fn described_package<'a>(
         node,
     };
     let features = lists_of(alloc, graph, &lists, unit, requested)?;
-    let mut of_root = Vec::new(alloc);
-    if unit.is_root {
-        of_root.push(features.len().saturating_sub(1))?;
-    }
+    let of_root = requests_of_root(alloc, unit.is_root, features.len())?;
     let (dependencies, edges) = unnamed(alloc, found)?;
     let package = Package {
         is_root: unit.is_root,
@@ -456,8 +479,10 @@ pub fn described_features<'a>(
     requested: &RequestedFeatures<'a>,
 ) -> Result<Described, AllocError>
     // The package of each node has the dependencies that the document declares and that have edges, and each of its
-    // features has the members that the entries of its list stand for.
-    ensures { IfOk result (AreDescribed graph.now) }
+    // features has the members that the entries of its list stand for. A package of which features are requested has
+    // one feature more, whose list has the members that these stand for, and all features if all are requested. A root
+    // requests this feature.
+    ensures { IfOk result (AreDescribed graph.now requested.now) }
 {
     let names = Names::of(alloc, graph.declared)?;
     let mut packages = Vec::new(alloc);

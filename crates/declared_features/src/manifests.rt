@@ -1,24 +1,22 @@
 //! The declarations of packages in a document: their dependencies and features.
 
-ghost use Rattle.std.specs.Prelude.{◌≡◌, IfOk, IfSome, Some, codes};
+ghost use Rattle.std.specs.Prelude.{◌≡◌, IfOk, IfSome, Some, option_map, codes};
 ghost use Rattle.std.specs.Option.{option_copied};
 ghost use Rattle.serde_json.specs.View.{view};
-ghost use Rattle.cargo_metadata.specs.Fields.{text_at};
+ghost use Rattle.cargo_metadata.specs.Fields.{text_at, flag_at};
 ghost use Rattle.cargo_metadata.specs.Nodes.{kind_at, condition_at};
 ghost use Rattle.cargo_metadata.specs.Rows.{AreRowsAt};
-ghost use Rattle.declared_features.specs.Documents.{flag_at, IsText, IsDeclared, AreEntriesOf};
+ghost use Rattle.declared_features.specs.Documents.{IsText, IsDeclared, AreEntriesOf, AreFeaturesOf, IsManifest};
+ghost use Rattle.declared_features.specs.Documents.{is_library_kind, is_library, library_of};
 
 use crate::entries::{FeatureEntry, entry_of};
-use crate::fields::{
-    Wanted, Wrong, condition_of, kind_of, list_at, text_at, wanted_flag, wanted_list, wanted_text,
+use cargo_metadata::fields::{
+    condition_of, field_at, kind_of, list_at, text_at, wanted_flag, wanted_list, wanted_text,
 };
-use cargo_metadata::Kind;
+use cargo_metadata::{Kind, Wanted, Wrong};
 use serde_json::Value;
 use std::alloc::{AllocError, Global};
 use std::fmt::{self, Display, Formatter, Write};
-
-/// The kinds of library targets that other packages can use.
-const LIBRARIES: [&str; 6] = ["lib", "rlib", "dylib", "cdylib", "staticlib", "proc-macro"];
 
 /// A dependency as a package declares it.
 #[derive(Drop)]
@@ -148,24 +146,42 @@ fn declared_of<'a>(alloc: Global, value: &'a Value) -> Result<Declared<'a>, InDe
 }
 
 /// Returns whether a target's kind is that of a library that other packages can use.
-fn is_of_library(kind: &Value) -> bool {
+fn is_library_kind(kind: &Value) -> bool
+    ensures { result ≡ is_library_kind (view kind.now) }
+{
     match kind.as_str() {
-        Some(kind) => LIBRARIES.iter().any(|library| *library == kind),
+        Some(kind) => matches!(
+            kind,
+            "lib" | "rlib" | "dylib" | "cdylib" | "staticlib" | "proc-macro"
+        ),
         None => false,
     }
 }
 
 /// Returns whether one of a target's kinds is that of a library that other packages can use.
-fn is_library(target: &Value) -> bool {
-    match list_at(target, "kind") {
-        Some(kinds) => kinds.iter().any(|kind| is_of_library(kind)),
-        None => false,
+fn is_library(target: &Value) -> bool
+    ensures { result ≡ is_library (view target.now) }
+{
+    let kinds = match list_at(target, "kind") {
+        None => return false,
+        Some(kinds) => kinds,
+    };
+    for kind in kinds {
+        if is_library_kind(kind) {
+            return true;
+        }
     }
+    false
 }
 
-/// Returns the name of a package's library.
-fn library_of<'a>(value: &'a Value) -> Option<&'a str> {
-    let targets = list_at(value, "targets")?;
+/// Returns the name of a package's library: that of its first target that is one.
+fn library_of<'a>(value: &'a Value) -> Option<&'a str>
+    ensures { option_map (λ s. s.now) result ≡ library_of (view value.now) }
+{
+    let targets = match list_at(value, "targets") {
+        None => return None,
+        Some(targets) => targets,
+    };
     for target in targets {
         if is_library(target) {
             return text_at(target, "name");
@@ -195,18 +211,17 @@ fn entries_of<'a>(
 }
 
 /// Returns the features of a package, or `None` if they are not an object of lists of texts.
-fn features_of<'a>(
-    alloc: Global,
-    value: &'a Value,
-) -> Result<Option<Vec<Feature<'a>>>, AllocError> {
-    let Some(found) = value.get("features") else {
+fn features_of<'a>(alloc: Global, value: &'a Value) -> Result<Option<Vec<Feature<'a>>>, AllocError>
+    ensures { IfOk result (λ found. IfSome found (λ features. AreFeaturesOf (view value.now) features.items)) }
+{
+    let Some(found) = field_at(value, "features") else {
         return Ok(None);
     };
     let Some(members) = found.as_object() else {
         return Ok(None);
     };
     let mut features = Vec::new(alloc);
-    for (name, listed) in members.iter() {
+    'members: for (name, listed) in members.iter() {
         let Some(lists) = entries_of(alloc, listed)? else {
             return Ok(None);
         };
@@ -242,7 +257,9 @@ fn dependencies_of<'a>(alloc: Global, value: &'a Value) -> Result<Vec<Declared<'
 }
 
 /// Reads the declarations of a package from an object.
-fn manifest_of<'a>(alloc: Global, value: &'a Value) -> Result<Manifest<'a>, InManifest> {
+fn manifest_of<'a>(alloc: Global, value: &'a Value) -> Result<Manifest<'a>, InManifest>
+    ensures { IfOk result (IsManifest (view value.now)) }
+{
     let dependencies = dependencies_of(alloc, value)?;
     let features = match features_of(alloc, value) {
         Ok(Some(features)) => features,
@@ -266,10 +283,10 @@ fn manifest_of<'a>(alloc: Global, value: &'a Value) -> Result<Manifest<'a>, InMa
 /// # Errors
 ///
 /// Fails for the first field that lacks a value of the expected type, and if memory is refused.
-pub fn read_manifests<'a>(
-    alloc: Global,
-    document: &'a Value,
-) -> Result<Vec<Manifest<'a>>, Refusal> {
+pub fn read_manifests<'a>(alloc: Global, document: &'a Value) -> Result<Vec<Manifest<'a>>, Refusal>
+    ensures { IfOk result
+        (λ manifests. AreRowsAt IsManifest (codes "packages") (view document.now) manifests.items) }
+{
     let items = match wanted_list(document, "packages") {
         Ok(items) => items,
         Err(wrong) => return Err(Refusal::Field(wrong)),

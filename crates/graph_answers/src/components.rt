@@ -3,11 +3,11 @@
 use crate::graph::Graph;
 use crate::identifiers::are_listed;
 use cargo_metadata::Package as Described;
+use cargo_metadata::fields::{list_at, text_at};
 use cyclonedx::{
     Component, ExternalReference, Hash, LicenceChoice, LicenceName, LicenceText, LockFile, Locked,
     NamedLicence, Property, Source, package_url,
 };
-use declared_features::{list_at, text_at};
 use serde_json::Value;
 use spdx_expressions::{LicenceExpression, ReadError};
 use std::alloc::{AllocError, Global};

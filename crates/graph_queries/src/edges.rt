@@ -47,7 +47,7 @@ pub fn edges_of<'a>(
         edges.push(Edge {
             from,
             to: row.linked.to,
-            place: row.place,
+            place: row.index,
             name: row.edge.name,
             kind: row.kind.kind,
             condition: read_condition(alloc, row.kind.condition)?,

@@ -27,7 +27,7 @@ const NO_CURRENT: &str =
 /// Returns the node of the package of the current directory.
 pub fn current_of(alloc: Global, graph: &Declaring<'_, '_>) -> Result<usize, Rejected> {
     if let Some(resolve) = graph.document.get("resolve") {
-        if let Some(id) = declared_features::text_at(resolve, "root") {
+        if let Some(id) = cargo_metadata::fields::text_at(resolve, "root") {
             for i in 0..graph.metadata.nodes.len() {
                 if graph.metadata.nodes[i].id == id {
                     return Ok(i);

@@ -1,7 +1,7 @@
 //! The reasons why documents are rejected that have what no answer takes into account.
 
 use crate::lines::shown;
-use declared_features::{list_at, text_at};
+use cargo_metadata::fields::{list_at, text_at};
 use serde_json::Value;
 use std::alloc::{AllocError, Global};
 

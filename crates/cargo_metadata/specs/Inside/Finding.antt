@@ -7,8 +7,8 @@ use Rattle.cargo_metadata.specs.declared.nodes.Node.{Node}
 use Rattle.package_graphs.specs.declared.packages.Package.{Package}
 use Rattle.cargo_metadata.specs.Ids.{package_ids, node_ids, member_ids, id_at}
 use Rattle.cargo_metadata.specs.Links.{AreIds, AreMembers, AreSound, IsPackageOf}
-use Rattle.cargo_metadata.specs.Inside.Places.{place_at, IsIndex, AreFound}
-use Rattle.cargo_metadata.specs.declared.graphs.places.Places.{Places}
+use Rattle.cargo_metadata.specs.Indexes.{index_at, IsIndex, AreFound}
+use Rattle.cargo_metadata.specs.declared.indexes.Indexes.{Indexes}
 
 -- it is one of the packages, with this id
 pub record Describes (m : Metadata) (id : List ℕ) (d : Described) : Type 0 where
@@ -20,23 +20,23 @@ pub record AreDescribed (m : Metadata) (ds : List Described) (n : ℕ) : Type 0 
   pub count : length ds ≡ n
   pub each : (i : ℕ) (d : Described) → i < n → Describes m (id_at (node_ids m.nodes.items) i) (slice_index_or ds i d)
 
-pub record AreNodesFound (m : Metadata) (nodes : Places) (ds : List Described) : Type 0 where
+pub record AreNodesFound (m : Metadata) (nodes : Indexes) (ds : List Described) : Type 0 where
   pub ids : AreIds m
   pub found : AreFound nodes (node_ids m.nodes.items)
   pub described : AreDescribed m ds (length m.nodes.items)
 
 -- a text has an index exactly if it is one of the first n members, which are nodes
-pub record AreMembersAmong (m : Metadata) (members : Places) (n : ℕ) : Type 0 where
+pub record AreMembersAmong (m : Metadata) (members : Indexes) (n : ℕ) : Type 0 where
   pub nodes : AreMembers m n
-  pub sound : (q : List ℕ) → IsSome (place_at members q) → Contains (member_ids m.members.items) q
-  pub complete : (i : ℕ) → i < n → IsSome (place_at members (id_at (member_ids m.members.items) i))
+  pub sound : (q : List ℕ) → IsSome (index_at members q) → Contains (member_ids m.members.items) q
+  pub complete : (i : ℕ) → i < n → IsSome (index_at members (id_at (member_ids m.members.items) i))
 
-abbrev pub AreMembersFound : Metadata → Places → Type 0
+abbrev pub AreMembersFound : Metadata → Indexes → Type 0
 AreMembersFound m members = AreMembersAmong m members (length m.members.items)
 
 -- the knowledge about the first n nodes
-pub record AreNodesSoFar (m : Metadata) (nodes : Places) (ds : List Described) (n : ℕ) : Type 0 where
-  pub index : IsIndex (place_at nodes) (node_ids m.nodes.items) n
+pub record AreNodesSoFar (m : Metadata) (nodes : Indexes) (ds : List Described) (n : ℕ) : Type 0 where
+  pub index : IsIndex (index_at nodes) (node_ids m.nodes.items) n
   pub known : (i : ℕ) → i < n → Contains (package_ids m.packages.items) (id_at (node_ids m.nodes.items) i)
   pub described : AreDescribed m ds n
 

@@ -3,11 +3,11 @@
 ghost use Rattle.std.specs.Prelude.{◌≡◌, ℕ, List, MatchResult};
 ghost use Rattle.cargo_metadata.specs.Links.{HoldsWhere, kind_of, AreEdgesOf};
 ghost use Rattle.cargo_metadata.specs.Refusals.{IsInDependency, IsWrongAt};
-ghost use Rattle.cargo_metadata.specs.Inside.Places.{AreFound};
+ghost use Rattle.cargo_metadata.specs.Indexes.{AreFound};
 ghost use Rattle.cargo_metadata.specs.Inside.Adding.{IsNoSet, wrong_at, AddsKinds};
 
-use super::places::Places;
 use super::refusals::InDependency;
+use crate::indexes::Indexes;
 use crate::{Dependency as Written, Kind as WrittenKind, Node};
 use cargo_platform::{ParseError, Platform, ReadError};
 use known_targets::{TargetSet, matching};
@@ -63,7 +63,7 @@ fn wrong_at(index: usize, no_set: NoSet) -> InDependency
 /// Adds an edge for each kind of a dependency.
 fn add_kinds<'a>(
     alloc: Global,
-    nodes: &Places<'a>,
+    nodes: &Indexes<'a>,
     written: &Written<'a>,
     edges: &mut Vec<Dependency>,
 ) -> Result<(), InDependency>
@@ -95,7 +95,7 @@ fn add_kinds<'a>(
 /// Returns the edges of a node. Fails with the index of the first dependency that has an error, and with that error.
 pub fn edges_of<'a>(
     alloc: Global,
-    nodes: &Places<'a>,
+    nodes: &Indexes<'a>,
     node: &Node<'a>,
 ) -> Result<Vec<Dependency>, (usize, InDependency)>
     ensures { (ids : List (List ℕ)) → AreFound nodes.now ids → MatchResult result

@@ -4,12 +4,12 @@ ghost use Rattle.std.specs.Prelude.{MatchResult};
 ghost use Rattle.cargo_metadata.specs.Ids.{package_ids, node_ids};
 ghost use Rattle.cargo_metadata.specs.Links.{AreIds, IsLinked};
 ghost use Rattle.cargo_metadata.specs.Refusals.{IsUnlinked};
-ghost use Rattle.cargo_metadata.specs.Inside.Places.{AreFound};
+ghost use Rattle.cargo_metadata.specs.Indexes.{AreFound};
 ghost use Rattle.cargo_metadata.specs.Inside.Finding.{AreNodesFound, AreMembersFound};
 
 use super::edges::edges_of;
-use super::places::Places;
 use super::refusals::Refusal;
+use crate::indexes::Indexes;
 use crate::{Metadata, Package as Described};
 use package_graphs::Package;
 use std::alloc::{AllocError, Global};
@@ -29,79 +29,79 @@ pub struct Linked<'a> {
 pub fn link<'a>(alloc: Global, metadata: &Metadata<'a>) -> Result<Linked<'a>, Refusal>
     ensures { MatchResult result (λ linked. IsLinked metadata.now linked) (λ refusal. IsUnlinked metadata.now refusal) }
 {
-    let packages = package_places(alloc, metadata)?;
-    let (nodes, described) = node_places(alloc, &packages, metadata)?;
-    let members = member_places(alloc, &nodes, metadata)?;
+    let packages = package_indexes(alloc, metadata)?;
+    let (nodes, described) = node_indexes(alloc, &packages, metadata)?;
+    let members = member_indexes(alloc, &nodes, metadata)?;
     graph_of(alloc, metadata, described, &nodes, &members)
 }
 
 /// Returns the indexes of the packages by id.
-fn package_places<'a>(alloc: Global, metadata: &Metadata<'a>) -> Result<Places<'a>, Refusal>
-    ensures { MatchResult result (λ places. AreFound places (package_ids metadata.now.packages.items))
+fn package_indexes<'a>(alloc: Global, metadata: &Metadata<'a>) -> Result<Indexes<'a>, Refusal>
+    ensures { MatchResult result (λ indexes. AreFound indexes (package_ids metadata.now.packages.items))
         (λ refusal. IsUnlinked metadata.now refusal) }
 {
-    let mut places = Places::new(alloc);
+    let mut indexes = Indexes::new(alloc);
     'packages: for i in 0..metadata.packages.len() {
-        match places.add(metadata.packages[i].id, i) {
+        match indexes.add(metadata.packages[i].id, i) {
             Ok(None) => {}
             Ok(Some(first)) => return Err(Refusal::SamePackage { first, again: i }),
             Err(error) => return Err(Refusal::Memory(error)),
         }
     }
-    Ok(places)
+    Ok(indexes)
 }
 
 /// Returns the indexes of the nodes by id, and the package of each node.
-fn node_places<'a>(
+fn node_indexes<'a>(
     alloc: Global,
-    packages: &Places<'a>,
+    packages: &Indexes<'a>,
     metadata: &Metadata<'a>,
-) -> Result<(Places<'a>, Vec<Described<'a>>), Refusal>
+) -> Result<(Indexes<'a>, Vec<Described<'a>>), Refusal>
     requires { AreFound packages.now (package_ids metadata.now.packages.items) }
     ensures { MatchResult result (λ found. AreNodesFound metadata.now found.0 found.1.items)
         (λ refusal. IsUnlinked metadata.now refusal) }
 {
-    let mut places = Places::new(alloc);
+    let mut indexes = Indexes::new(alloc);
     let mut described = Vec::new(alloc);
     'nodes: for i in 0..metadata.nodes.len() {
         let id = metadata.nodes[i].id;
-        let Some(place) = packages.find(id) else {
+        let Some(index) = packages.find(id) else {
             return Err(Refusal::NoPackage(i));
         };
-        match places.add(id, i) {
+        match indexes.add(id, i) {
             Ok(None) => {}
             Ok(Some(first)) => return Err(Refusal::SameNode { first, again: i }),
             Err(error) => return Err(Refusal::Memory(error)),
         }
-        if let Err(error) = described.push(metadata.packages[place]) {
+        if let Err(error) = described.push(metadata.packages[index]) {
             return Err(Refusal::Memory(AllocError::from(error)));
         }
     }
-    Ok((places, described))
+    Ok((indexes, described))
 }
 
 /// Returns the indexes of the members by id.
-fn member_places<'a>(
+fn member_indexes<'a>(
     alloc: Global,
-    nodes: &Places<'a>,
+    nodes: &Indexes<'a>,
     metadata: &Metadata<'a>,
-) -> Result<Places<'a>, Refusal>
+) -> Result<Indexes<'a>, Refusal>
     requires ids { AreIds metadata.now }
     requires nodes { AreFound nodes.now (node_ids metadata.now.nodes.items) }
     ensures { MatchResult result (λ members. AreMembersFound metadata.now members)
         (λ refusal. IsUnlinked metadata.now refusal) }
 {
-    let mut places = Places::new(alloc);
+    let mut indexes = Indexes::new(alloc);
     'members: for i in 0..metadata.members.len() {
         let id = metadata.members[i];
         if nodes.find(id).is_none() {
             return Err(Refusal::NoMember(i));
         }
-        if let Err(error) = places.add(id, i) {
+        if let Err(error) = indexes.add(id, i) {
             return Err(Refusal::Memory(error));
         }
     }
-    Ok(places)
+    Ok(indexes)
 }
 
 /// Returns the graph of the packages that were found.
@@ -109,8 +109,8 @@ fn graph_of<'a>(
     alloc: Global,
     metadata: &Metadata<'a>,
     described: Vec<Described<'a>>,
-    nodes: &Places<'a>,
-    members: &Places<'a>,
+    nodes: &Indexes<'a>,
+    members: &Indexes<'a>,
 ) -> Result<Linked<'a>, Refusal>
     requires ids { AreIds metadata.now }
     requires nodes { AreNodesFound metadata.now nodes.now described.items }

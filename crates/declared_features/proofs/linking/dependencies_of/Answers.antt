@@ -8,7 +8,7 @@ use Rattle.declared_features.specs.Lists.{MatchesJust}
 use Rattle.declared_features.specs.Manifests.{manifest_at, dependencies_in}
 use Rattle.declared_features.specs.Requests.{IsLink, IsNamedOf}
 use Rattle.declared_features.specs.Inside.Links.{IsLinkBelow}
-use Rattle.declared_features.specs.Inside.Places.{place_in}
+use Rattle.declared_features.specs.Inside.Names.{index_in}
 use Rattle.declared_features.specs.declared.declaring.Row.{Row}
 use Rattle.declared_features.specs.declared.linking.Named.{Named}
 use Rattle.declared_features.specs.declared.manifests.Declared.{Declared}
@@ -24,7 +24,7 @@ rows-init c =
     let graph = c.args.graph.now in
     let rows = c.in_ok-rows.rows.items in
     matches_none (IsLink graph c.args.node (take 0 rows) c.in-Some.manifest.now.dependencies.items)
-    (λ link found. IsNamedOf (place_in c.args.names.now) c.args.node link.0 link.1 found) c.new-found.result.items
+    (λ link found. IsNamedOf (index_in c.args.names.now) c.args.node link.0 link.1 found) c.new-found.result.items
     c.new-found.ensures.items
     (λ link is. let h = is.row_is in let inside = h.1 in omega (arith, inside, length-take 0 rows))
 
@@ -34,7 +34,7 @@ declared-init c =
     let rows = c.in_ok-rows.rows.items in
     let ds = c.in-Some.manifest.now.dependencies.items in
     matches_as (IsLink graph c.args.node (take c.rows.i rows) ds) (IsLinkBelow graph c.args.node rows c.rows.i ds 0)
-    (λ link found. IsNamedOf (place_in c.args.names.now) c.args.node link.0 link.1 found) c.rows.found.items
+    (λ link found. IsNamedOf (index_in c.args.names.now) c.args.node link.0 link.1 found) c.rows.found.items
     (λ link is. inl is) (λ link is. link_first graph c.args.node rows c.rows.i ds link is) c.rows.invariant
 
 pub declared-preserved : goal.declared-preserved
@@ -48,7 +48,7 @@ declared-preserved c =
     let row = c.index-row.result.now in
     let d = c.index-declared.result.now in
     let R : Row × Declared → Named → Type 0 =
-    λ link found. IsNamedOf (place_in c.args.names.now) node link.0 link.1 found in
+    λ link found. IsNamedOf (index_in c.args.names.now) node link.0 link.1 found in
     let items = λ (v : Vec Named Global). v.items in
     let row_below : i < length rows.items = omega (arith, c.rows-test.true, c.len-i-end.ensures, rows.ok.0) in
     let d_below : j < length ds.items = omega (arith, c.declared-test.true, c.len-j-end.ensures, ds.ok.0) in
@@ -101,7 +101,7 @@ rows-preserved c =
     let past : length ds.items ≤ j = omega (arith, c.declared-test.false, c.len-j-end.ensures, ds.ok.0) in
     let row = element_at rows.items i row_below in
     matches_as (IsLinkBelow graph node rows.items i ds.items j) (IsLink graph node (take (i + 1) rows.items) ds.items)
-    (λ link found. IsNamedOf (place_in c.args.names.now) node link.0 link.1 found) c.declared.found.items
+    (λ link found. IsNamedOf (index_in c.args.names.now) node link.0 link.1 found) c.declared.found.items
     (λ link h. link_row graph node rows.items i row.0 ds.items j row.1 past link h)
     (λ link h. row_link graph node rows.items i row.0 ds.items j row.1 past link h) c.declared.invariant
 
@@ -117,7 +117,7 @@ returns-in_default c =
       rows_are = c.in_ok-rows.ensures;
       matches =
           matches_none (IsLink graph node rows (dependencies_in (manifest_at graph.declared.now node)))
-          (λ link found. IsNamedOf (place_in c.args.names.now) node link.0 link.1 found) c.new-found.result.items
+          (λ link found. IsNamedOf (index_in c.args.names.now) node link.0 link.1 found) c.new-found.result.items
           c.new-found.ensures.items
           (λ link is.
           let h = subst (λ (o : Option Manifest). Contains (dependencies_in o) link.1) none is.declared_is in
@@ -132,7 +132,7 @@ returns c =
     let rows = c.in_ok-rows.rows in
     let ds = c.in-Some.manifest.now.dependencies.items in
     let R : Row × Declared → Named → Type 0 =
-    λ link found. IsNamedOf (place_in c.args.names.now) node link.0 link.1 found in
+    λ link found. IsNamedOf (index_in c.args.names.now) node link.0 link.1 found in
     let past : length rows.items ≤ c.rows.i =
     omega (arith, c.rows-test.false, c.len-i-end.ensures, rows.ok.0) in
     let whole : MatchesJust (IsLink graph node rows.items ds) R c.rows.found.items =

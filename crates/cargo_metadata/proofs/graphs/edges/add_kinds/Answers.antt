@@ -1,5 +1,5 @@
 use Rattle.std.proofs.Common.{◌<◌, length, sym, subst, arith}
-use Rattle.cargo_metadata.specs.Inside.Places.{place_at}
+use Rattle.cargo_metadata.specs.Indexes.{index_at}
 use Rattle.cargo_metadata.specs.Refusals.{IsInDependency}
 use Rattle.cargo_metadata.specs.declared.graphs.refusals.InDependency.{InDependency}
 use Rattle.cargo_metadata.proofs.Indexing.{found_contains, absent}
@@ -11,7 +11,7 @@ kinds-init c ids found = rows_none ids c.args.written.now.on.now c.args.written.
 
 pub returns-in_default : goal.returns-in_default
 returns-in_default c ids found =
-    absent (place_at c.args.nodes.now) ids c.args.written.now.on.now found (sym c.in_default.ensures)
+    absent (index_at c.args.nodes.now) ids c.args.written.now.on.now found (sym c.in_default.ensures)
 
 pub returns-in-Err : goal.returns-in-Err
 returns-in-Err c ids found =
@@ -21,7 +21,7 @@ returns-in-Err c ids found =
     let below : i < length d.kinds.items = omega (arith, c.kinds-test.true, c.len-i-end.ensures, d.kinds.ok.0) in
     subst (λ (wrong : InDependency). IsInDependency ids wrong d) (sym c.wrong_at.ensures)
     (refused_at ids d i row c.in-Err.no_set below c.index-row.ensures
-    (found_contains (place_at c.args.nodes.now) ids d.on.now c.in-Some.to found (sym c.in-Some.ensures))
+    (found_contains (index_at c.args.nodes.now) ids d.on.now c.in-Some.to found (sym c.in-Some.ensures))
     (c.kinds.invariant ids found).spelled c.in-Err.ensures)
 
 pub kinds-preserved : goal.kinds-preserved
@@ -40,5 +40,5 @@ pub returns : goal.returns
 returns c ids found =
     let d = c.args.written.now in
     adds_all ids d c.kinds.i c.args.edges.now.items c.kinds.edges.items
-    (found_contains (place_at c.args.nodes.now) ids d.on.now c.in-Some.to found (sym c.in-Some.ensures))
+    (found_contains (index_at c.args.nodes.now) ids d.on.now c.in-Some.to found (sym c.in-Some.ensures))
     (omega (arith, c.kinds-test.false, c.len-i-end.ensures, d.kinds.ok.0)) (c.kinds.invariant ids found)

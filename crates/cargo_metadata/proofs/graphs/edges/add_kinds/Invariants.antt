@@ -1,5 +1,5 @@
 use Rattle.std.proofs.Common.{ℕ, List}
-use Rattle.cargo_metadata.specs.Inside.Places.{AreFound}
+use Rattle.cargo_metadata.specs.Indexes.{AreFound}
 use Rattle.cargo_metadata.specs.Inside.Adding.{AddsRows}
 use Rattle.cargo_metadata.proofs.graphs.edges.add_kinds.Given as goal
 

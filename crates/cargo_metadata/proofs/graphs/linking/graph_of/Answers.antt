@@ -7,7 +7,7 @@ use Rattle.package_graphs.specs.declared.packages.Package.{Package}
 use Rattle.cargo_metadata.specs.Ids.{node_ids, member_ids, id_at}
 use Rattle.cargo_metadata.specs.Links.{AreSound, IsPackageOf}
 use Rattle.cargo_metadata.specs.Refusals.{IsWrongAt}
-use Rattle.cargo_metadata.specs.Inside.Places.{place_at}
+use Rattle.cargo_metadata.specs.Indexes.{index_at}
 use Rattle.cargo_metadata.specs.Inside.Finding.{Describes}
 use Rattle.cargo_metadata.proofs.Indexing.{id_read, is_member, root_iff}
 use Rattle.cargo_metadata.proofs.Adding.{at_any, before_more, pushed_more, pushed_count}
@@ -61,7 +61,7 @@ nodes-preserved c =
     (λ h. c.requires.members.sound node.id.now (subst IsSome c.find.ensures h))
     (λ h.
     subst IsSome (sym c.find.ensures)
-    (is_member (place_at c.args.members.now) members node.id.now (λ k less. c.requires.members.complete k (omega (
+    (is_member (index_at c.args.members.now) members node.id.now (λ k less. c.requires.members.complete k (omega (
       arith,
       less,
       length-map m.members.items (λ b. b.now),

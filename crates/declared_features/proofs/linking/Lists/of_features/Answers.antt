@@ -1,10 +1,10 @@
-use Rattle.std.proofs.Common.{◌<◌, length, List, ℕ, ◌+◌, ◌∙◌, ap, subst, sym, Option, Bor, arith}
+use Rattle.std.proofs.Common.{◌≡◌, ◌<◌, length, List, ℕ, ◌+◌, ◌∙◌, ap, subst, sym, Option, Bor, arith}
 use Rattle.std.proofs.lemmas.List.{take_all}
 use Rattle.std.specs.Option.{option_copied}
 use Rattle.declared_features.specs.Lists.{HasJust}
 use Rattle.declared_features.specs.Manifests.{features_in}
 use Rattle.declared_features.specs.Members.{SomeStandsFor, HasListsOf}
-use Rattle.declared_features.specs.Inside.Places.{place_in}
+use Rattle.declared_features.specs.Inside.Names.{index_in}
 use Rattle.declared_features.specs.declared.entries.FeatureEntry.{FeatureEntry}
 use Rattle.declared_features.specs.declared.manifests.Feature.{Feature}
 use Rattle.declared_features.specs.declared.manifests.Manifest.{Manifest}
@@ -16,7 +16,7 @@ pub features-init : goal.features-init
 features-init c =
     let self = c.args.self.now in (
       ap length c.new-features.ensures.items,
-      lists_none (SomeStandsFor (place_in self.names.now) self.node self.found.now)
+      lists_none (SomeStandsFor (index_in self.names.now) self.node self.found.now)
           c.in-Some.manifest.now.features.items c.new-features.result.items,
     )
 
@@ -25,7 +25,7 @@ features-preserved c =
     let self = c.args.self.now in
     let fs = c.in-Some.manifest.now.features in
     let i = c.features.i in
-    let IsMember = SomeStandsFor (place_in self.names.now) self.node self.found.now in
+    let IsMember = SomeStandsFor (index_in self.names.now) self.node self.found.now in
     let below : i < length fs.items = omega (arith, c.features-test.true, c.len-i-end.ensures, fs.ok.0) in
     let just =
     subst (λ (es : List FeatureEntry). HasJust c.in_ok-members.members.items (IsMember es)) c.deref.ensures.value
@@ -37,11 +37,19 @@ features-preserved c =
           c.features.invariant.1,
     )
 
-pub returns : goal.returns
-returns c =
+pub returns-clause-count : goal.returns-clause-count
+returns-clause-count c =
+    let fs = c.in-Some.manifest.now.features in
+    subst (λ (o : Option (Bor Manifest)). length c.features.features.items ≡ length (features_in (option_copied o)))
+    (sym c.in-Some.is)
+    (omega
+    (arith, c.features.invariant.0, c.features-test.false, c.features.auto.i-end, c.len-i-end.ensures, fs.ok.0))
+
+pub returns-clause-lists : goal.returns-clause-lists
+returns-clause-lists c =
     let self = c.args.self.now in
     let fs = c.in-Some.manifest.now.features in
-    let IsMember = SomeStandsFor (place_in self.names.now) self.node self.found.now in
+    let IsMember = SomeStandsFor (index_in self.names.now) self.node self.found.now in
     subst (λ (o : Option (Bor Manifest)). HasListsOf IsMember (features_in (option_copied o)) c.features.features.items)
     (sym c.in-Some.is)
     (subst (λ (fs : List Feature). HasListsOf IsMember fs c.features.features.items)

@@ -1,6 +1,6 @@
 use Rattle.std.proofs.Common.{◌≡◌, ℕ, ◌∙◌, ap, List, Option, arith}
-use Rattle.declared_features.specs.Manifests.{place_of, features_in, features_at}
-use Rattle.declared_features.specs.Inside.Places.{place_at}
+use Rattle.declared_features.specs.Manifests.{feature_index, features_in, features_at}
+use Rattle.cargo_metadata.specs.Indexes.{index_at}
 use Rattle.declared_features.specs.declared.manifests.Manifest.{Manifest}
 use Rattle.declared_features.proofs.Describing.{names_none, names_more, names_all}
 use Rattle.declared_features.proofs.linking.Names.of.Goals as goal
@@ -11,10 +11,10 @@ nodes-init c = names_none c.args.declarations.now c.new-features.result c.new-fe
 pub nodes-preserved : goal.nodes-preserved
 nodes-preserved c =
     let d = c.args.declarations.now in
-    let these : (q : List ℕ) → place_at c.in_ok-places.places q ≡ place_of (features_at d c.nodes.node) q =
+    let these : (q : List ℕ) → index_at c.in_ok-indexes.indexes q ≡ feature_index (features_at d c.nodes.node) q =
     λ q.
-    c.in_ok-places.ensures q ∙ ap (λ (o : Option Manifest). place_of (features_in o) q) c.manifest.ensures in
-    names_more d c.nodes.node c.nodes.features c.push.new.self c.in_ok-places.places c.in_ok-push.ensures.items these
+    c.in_ok-indexes.ensures q ∙ ap (λ (o : Option Manifest). feature_index (features_in o) q) c.manifest.ensures in
+    names_more d c.nodes.node c.nodes.features c.push.new.self c.in_ok-indexes.indexes c.in_ok-push.ensures.items these
     c.nodes.invariant
 
 pub returns : goal.returns

@@ -1,4 +1,4 @@
-use Rattle.declared_features.specs.Inside.Places.{AreNamesBelow}
+use Rattle.declared_features.specs.Inside.Names.{AreNamesBelow}
 use Rattle.declared_features.proofs.linking.Names.of.Given as goal
 
 abbrev pub invariant-nodes : goal.invariant-nodes

@@ -1,5 +1,0 @@
-use Rattle.cargo_metadata.specs.Inside.Finding.{AreNodesSoFar}
-use Rattle.cargo_metadata.proofs.graphs.linking.node_places.Given as goal
-
-abbrev pub invariant-nodes : goal.invariant-nodes
-invariant-nodes l = AreNodesSoFar l.metadata l.places l.described.items l.i

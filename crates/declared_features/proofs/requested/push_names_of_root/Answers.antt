@@ -1,0 +1,17 @@
+use Rattle.std.proofs.Common.{◌≡◌, ℕ, List, Bor, subst, get_or}
+use Rattle.declared_features.specs.Lists.{Adds}
+use Rattle.declared_features.specs.Requested.{without_root}
+use Rattle.declared_features.specs.Inside.Names.{texts_in}
+use Rattle.declared_features.proofs.Collecting.{adding_start, adding_next, adding_end, text_added}
+use Rattle.declared_features.proofs.requested.push_names_of_root.Goals as goal
+
+pub names-init : goal.names-init
+names-init c = adding_start (texts_in c.args.texts.now.items) c.args.names.now (λ name t. without_root c.args.called.now name.now ≡ t)
+
+pub names-preserved : goal.names-preserved
+names-preserved c = ?
+
+pub returns : goal.returns
+returns c =
+    adding_end (texts_in c.args.texts.now.items) (texts_in c.names.texts.items) c.args.names.now c.names.i
+    (λ name t. without_root c.args.called.now name.now ≡ t) c.names-test.false c.names.invariant
