@@ -8,7 +8,7 @@ use Rattle.std.proofs.Math.Seq.{get_or-append_seam}
 use Rattle.std.proofs.lemmas.Bool.{cases_lt}
 use Rattle.std.proofs.lemmas.Grind.{get_or-set_at}
 use Rattle.std.proofs.lemmas.List.{get_or-set_other}
-use Rattle.workspaces.specs.Stretches.{IsTaken}
+use Rattle.workspaces.specs.Stretches.{IsMatched}
 use Rattle.workspaces.proofs.Steps.{none}
 
 -- the last k + 1 pieces are the piece before the last k, and these
@@ -72,14 +72,14 @@ end_of row new b k is long =
       sym (ap (λ (r : List Bool). get_or r (k + 1) false) is ∙ at),
     )
 
--- whether one more of the last pieces takes no items
+-- whether one more of the last pieces matches no items
 pub none_more : {P T : Type 0} (m : P → Bool) (t : P → T → Type 0) (ps : List P) (k : ℕ) (p : P) (f b : Bool)
-    → k < length ps → p ≡ get_or ps (length ps - 1 - k) p → IsTrue f ↔ IsTaken m t (drop (length ps - k) ps) []
-    → IsTrue b ↔ IsTrue (m p) × IsTrue f → IsTrue b ↔ IsTaken m t (drop (length ps - (k + 1)) ps) []
+    → k < length ps → p ≡ get_or ps (length ps - 1 - k) p → IsTrue f ↔ IsMatched m t (drop (length ps - k) ps) []
+    → IsTrue b ↔ IsTrue (m p) × IsTrue f → IsTrue b ↔ IsMatched m t (drop (length ps - (k + 1)) ps) []
 none_more {P} m t ps k p f b inside at fewer both =
     let lasts = drop (length ps - k) ps in
     let all : drop (length ps - (k + 1)) ps ≡ p ∷ lasts =
     last_pieces ps k p inside ∙ ap (λ z. z ∷ lasts) (sym at) in
     let one = none m t p lasts in
-    subst (λ (qs : List P). IsTrue b ↔ IsTaken m t qs []) (sym all)
+    subst (λ (qs : List P). IsTrue b ↔ IsMatched m t qs []) (sym all)
     (λ h. let k = both.0 h in one.1 (k.0, fewer.0 k.1), λ h. let k = one.0 h in both.1 (k.0, fewer.1 k.1))

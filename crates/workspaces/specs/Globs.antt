@@ -1,6 +1,6 @@
--- Globs as Cargo has them: what a pattern takes of a path below the root of a workspace.
+-- Globs as Cargo has them: what a pattern matches of a path below the root of a workspace.
 use Rattle.std.specs.Prelude.{◌≤◌, ℕ, Bool, true, false, List, Contains}
-use Rattle.workspaces.specs.Stretches.{IsTaken}
+use Rattle.workspaces.specs.Stretches.{IsMatched}
 use Rattle.workspaces.specs.declared.components.CharacterRange.{CharacterRange}
 use Rattle.workspaces.specs.declared.components.Part.{Part}
 use Rattle.workspaces.specs.declared.components.Part.TheVariants as part
@@ -20,7 +20,7 @@ abbrev pub is_any : Part → Bool
 is_any part.Any = true
 is_any (part.One characters) = false
 
--- `*` takes no lone character: it takes stretches
+-- `*` matches no lone character: it matches stretches
 abbrev pub IsOne : Part → ℕ → Type 0
 IsOne part.Any c = ⊥
 IsOne (part.One characters) c = IsInWhere characters.are_excluded characters.ranges.items c
@@ -33,4 +33,4 @@ is_folders (component.Named parts) = false
 -- another component takes a folder whose name is stretches, one for each of its parts
 abbrev pub IsNamedBy : Component → List ℕ → Type 0
 IsNamedBy component.Folders name = ⊥
-IsNamedBy (component.Named parts) name = IsTaken is_any IsOne parts.items name
+IsNamedBy (component.Named parts) name = IsMatched is_any IsOne parts.items name

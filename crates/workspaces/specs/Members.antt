@@ -2,7 +2,7 @@
 use Rattle.std.specs.Prelude.{ℕ, List, Contains}
 use Rattle.std.specs.declared.vec.Vec.{Vec}
 use Rattle.std.specs.declared.alloc.Global.{Global}
-use Rattle.workspaces.specs.Stretches.{IsTaken}
+use Rattle.workspaces.specs.Stretches.{IsMatched}
 use Rattle.workspaces.specs.Globs.{is_folders, IsNamedBy}
 use Rattle.workspaces.specs.declared.patterns.Pattern.{Pattern}
 use Rattle.workspaces.specs.declared.member_rules.Rules.{Rules}
@@ -12,17 +12,17 @@ abbrev pub Path : Type 0
 Path = List (Vec ℕ Global)
 
 -- the path is stretches, one for each component of the pattern
-abbrev pub IsTakenBy : Pattern → Path → Type 0
-IsTakenBy pattern path =
-    IsTaken is_folders (λ component name. IsNamedBy component name.items) pattern.components.items path
+abbrev pub IsMatchedBy : Pattern → Path → Type 0
+IsMatchedBy pattern path =
+    IsMatched is_folders (λ component name. IsNamedBy component name.items) pattern.components.items path
 
-abbrev pub IsTakenBySome : List Pattern → Path → Type 0
-IsTakenBySome patterns path = (p : Pattern) × Contains patterns p × IsTakenBy p path
+abbrev pub IsMatchedBySome : List Pattern → Path → Type 0
+IsMatchedBySome patterns path = (p : Pattern) × Contains patterns p × IsMatchedBy p path
 
 -- it is in or below an excluded folder, and in and below none that `members` names as it is
 abbrev pub IsExcluded : Rules → Path → Type 0
-IsExcluded rules path = IsTakenBySome rules.excluded.items path × (IsTakenBySome rules.named.items path → ⊥)
+IsExcluded rules path = IsMatchedBySome rules.excluded.items path × (IsMatchedBySome rules.named.items path → ⊥)
 
--- a pattern of `members` takes it, and it is not excluded
+-- a pattern of `members` matches it, and it is not excluded
 abbrev pub IsMember : Rules → Path → Type 0
-IsMember rules path = IsTakenBySome rules.members.items path × (IsExcluded rules path → ⊥)
+IsMember rules path = IsMatchedBySome rules.members.items path × (IsExcluded rules path → ⊥)

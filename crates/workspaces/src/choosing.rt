@@ -105,13 +105,13 @@ fn candidates_at<R: Files + Env + AllocGlobal>(
     Ok(found)
 }
 
-/// Returns whether a text is a name, or a glob that takes it. A text that is no glob takes nothing else.
-fn takes_name(alloc: Global, text: &str, name: &str) -> Result<bool, AllocError> {
+/// Returns whether a text is a name, or a glob that matches it. A text that is no glob matches nothing else.
+fn matches_name(alloc: Global, text: &str, name: &str) -> Result<bool, AllocError> {
     if !is_glob(text) {
         return Ok(text == name);
     }
     match Pattern::from_str(alloc, text) {
-        Ok(pattern) => pattern.takes(alloc, &names_of(alloc, name)?),
+        Ok(pattern) => pattern.matches(alloc, &names_of(alloc, name)?),
         Err(PatternError::Fault(_)) => Ok(false),
         Err(PatternError::Memory(refused)) => Err(refused),
     }
@@ -135,11 +135,11 @@ fn means(alloc: Global, text: &str, candidate: &Candidate) -> Result<bool, Alloc
         Some(version) => is_version(version, candidate.version.as_str()),
         None => true,
     };
-    Ok(has_version && takes_name(alloc, name, candidate.name.as_str())?)
+    Ok(has_version && matches_name(alloc, name, candidate.name.as_str())?)
 }
 
 /// Returns whether a glob takes a path, or one of a folder above it, by the names of the path.
-fn takes_above(alloc: Global, glob: &str, path: &str) -> Result<bool, AllocError> {
+fn matches_above(alloc: Global, glob: &str, path: &str) -> Result<bool, AllocError> {
     let pattern = match Pattern::from_str(alloc, glob) {
         Ok(pattern) => pattern,
         Err(PatternError::Fault(_)) => return Ok(false),
@@ -147,17 +147,17 @@ fn takes_above(alloc: Global, glob: &str, path: &str) -> Result<bool, AllocError
     };
     let names = names_of(alloc, path)?;
     for count in 1..=names.len() {
-        if pattern.takes(alloc, names.get(..count).unwrap_or(&[]))? {
+        if pattern.matches(alloc, names.get(..count).unwrap_or(&[]))? {
             return Ok(true);
         }
     }
     Ok(false)
 }
 
-/// Returns whether a glob without a slash takes one of the names of a path.
-fn takes_some_name(alloc: Global, glob: &str, path: &str) -> Result<bool, AllocError> {
+/// Returns whether a glob without a slash matches one of the names of a path.
+fn matches_some_name(alloc: Global, glob: &str, path: &str) -> Result<bool, AllocError> {
     for name in path.split('/') {
-        if !name.is_empty() && takes_name(alloc, glob, name)? {
+        if !name.is_empty() && matches_name(alloc, glob, name)? {
             return Ok(true);
         }
     }
@@ -179,9 +179,9 @@ fn means_path(alloc: Global, text: &str, candidate: &Candidate) -> Result<bool, 
     };
     let path = shorter(alloc, if is_folder { folder_of(path) } else { path })?;
     if !text.contains('/') {
-        return takes_some_name(alloc, text, path.as_str());
+        return matches_some_name(alloc, text, path.as_str());
     }
-    takes_above(alloc, text, path.as_str())
+    matches_above(alloc, text, path.as_str())
 }
 
 /// Returns whether one of the texts means the package of a candidate.

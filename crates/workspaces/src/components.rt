@@ -3,7 +3,7 @@
 ghost use Rattle.std.specs.Prelude.{◌≡◌, ◌↔◌, IsTrue, IfOk};
 ghost use Rattle.workspaces.specs.Globs.{is_any, IsOne, is_folders, IsNamedBy, IsWithin, IsInWhere};
 
-use crate::pieces::{Piece, are_taken};
+use crate::glob_matching::{Piece, all_match};
 use std::alloc::{AllocError, Global};
 
 /// The characters from one to another, inclusive.
@@ -55,7 +55,7 @@ pub enum Part {
 impl Piece<char> for Part {
     ghost is_many = { is_any };
 
-    ghost takes = { IsOne };
+    ghost matches = { IsOne };
 
     fn is_many(&self) -> bool {
         match self {
@@ -64,7 +64,7 @@ impl Piece<char> for Part {
         }
     }
 
-    fn takes(&self, _alloc: Global, item: &char) -> Result<bool, AllocError> {
+    fn matches(&self, _alloc: Global, item: &char) -> Result<bool, AllocError> {
         match self {
             Part::Any => Ok(false),
             Part::One(characters) => Ok(characters.have(*item)),
@@ -87,7 +87,7 @@ pub enum Component {
 impl Piece<Vec<char>> for Component {
     ghost is_many = { is_folders };
 
-    ghost takes = { λ component name. IsNamedBy component name.items };
+    ghost matches = { λ component name. IsNamedBy component name.items };
 
     fn is_many(&self) -> bool {
         match self {
@@ -96,10 +96,10 @@ impl Piece<Vec<char>> for Component {
         }
     }
 
-    fn takes(&self, alloc: Global, item: &Vec<char>) -> Result<bool, AllocError> {
+    fn matches(&self, alloc: Global, item: &Vec<char>) -> Result<bool, AllocError> {
         match self {
             Component::Folders => Ok(false),
-            Component::Named(parts) => are_taken(alloc, parts, item),
+            Component::Named(parts) => all_match(alloc, parts, item),
         }
     }
 }

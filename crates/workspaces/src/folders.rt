@@ -2,9 +2,9 @@
 
 use crate::components::{Component, Name};
 use crate::documents::real_path;
+use crate::glob_matching::Piece;
 use crate::manifests::{if_successful, inside, is_folder};
 use crate::patterns::{Pattern, is_glob, plain_components};
-use crate::pieces::Piece;
 use std::alloc::{AllocError, Global};
 use std::fs::{self, DirEntry};
 use std::io;
@@ -162,9 +162,9 @@ fn add_lower<R: Files + AllocGlobal>(
 }
 
 /// Returns whether the component matches a name.
-fn takes(alloc: Global, component: &Component, name: &str) -> Result<bool, AllocError> {
+fn matches(alloc: Global, component: &Component, name: &str) -> Result<bool, AllocError> {
     let characters: Name = name.chars().collect(alloc)?;
-    component.takes(alloc, &characters)
+    component.matches(alloc, &characters)
 }
 
 /// Adds the folders in a folder whose names the component matches.
@@ -176,7 +176,7 @@ fn add_named<R: Files + AllocGlobal + Clone + Drop>(
     found: &mut Vec<String>,
 ) -> Result<(), AllocError> {
     for name in &names_below(rt, root, path)? {
-        if takes(rt.alloc(), component, name.as_str())? {
+        if matches(rt.alloc(), component, name.as_str())? {
             add_lower(rt, root, path, name.as_str(), found)?;
         }
     }

@@ -11,13 +11,13 @@ mod dependencies;
 mod documents;
 mod finding;
 mod folders;
+mod glob_matching;
 mod inheritance;
 mod inherited;
 mod manifests;
 mod member_rules;
 mod members;
 mod patterns;
-mod pieces;
 
 pub use components::{CharacterRange, Characters, Component, Name, Part};
 pub use documents::{Document, Documents};
@@ -31,5 +31,7 @@ pub use manifests::{
     table_of, text_in,
 };
 pub use member_rules::Rules;
-pub use patterns::{Fault, Pattern, PatternError, is_glob, names_of, plain_components, some_takes};
-pub use pieces::{Piece, are_taken};
+pub use patterns::{
+    Fault, Pattern, PatternError, is_glob, names_of, plain_components, some_matches,
+};
+pub use pieces::{Piece, all_match};

@@ -3,7 +3,7 @@
 ghost use Rattle.std.specs.Prelude.{◌↔◌, IsTrue, IfOk};
 ghost use Rattle.workspaces.specs.Members.{IsExcluded, IsMember};
 
-use crate::patterns::{Pattern, some_takes};
+use crate::patterns::{Pattern, some_matches};
 use std::alloc::{AllocError, Global};
 
 /// The rules by which a manifest selects the members of its workspace.
@@ -29,11 +29,11 @@ impl Rules {
     pub fn exclude(&self, alloc: Global, path: &[Vec<char>]) -> Result<bool, AllocError>
         ensures { IfOk result (λ b. IsTrue b ↔ IsExcluded self.now path.now) }
     {
-        let is_below = some_takes(alloc, &self.excluded, path)?;
+        let is_below = some_matches(alloc, &self.excluded, path)?;
         if !is_below {
             return Ok(false);
         }
-        let is_named = some_takes(alloc, &self.named, path)?;
+        let is_named = some_matches(alloc, &self.named, path)?;
         Ok(holds_without(is_below, is_named))
     }
 
@@ -41,8 +41,8 @@ impl Rules {
     pub fn have(&self, alloc: Global, path: &[Vec<char>]) -> Result<bool, AllocError>
         ensures { IfOk result (λ b. IsTrue b ↔ IsMember self.now path.now) }
     {
-        let is_taken = some_takes(alloc, &self.members, path)?;
+        let is_matched = some_matches(alloc, &self.members, path)?;
         let is_excluded = self.exclude(alloc, path)?;
-        Ok(holds_without(is_taken, is_excluded))
+        Ok(holds_without(is_matched, is_excluded))
     }
 }

@@ -197,7 +197,7 @@ impl Members {
         pattern: &Pattern,
     ) -> Result<bool, AllocError> {
         let names = names_of(alloc, folder)?;
-        if !pattern.takes(alloc, &names)? {
+        if !pattern.matches(alloc, &names)? {
             return self.rules.have(alloc, &names);
         }
         Ok(!self.rules.exclude(alloc, &names)?)

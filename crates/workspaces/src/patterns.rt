@@ -1,10 +1,10 @@
 //! Globs over the paths of folders, and their parser.
 
 ghost use Rattle.std.specs.Prelude.{◌↔◌, IsTrue, IfOk};
-ghost use Rattle.workspaces.specs.Members.{IsTakenBy, IsTakenBySome};
+ghost use Rattle.workspaces.specs.Members.{IsMatchedBy, IsMatchedBySome};
 
 use crate::components::{CharacterRange, Characters, Component, Name, Part};
-use crate::pieces::are_taken;
+use crate::glob_matching::all_match;
 use std::alloc::{AllocError, Global};
 
 /// A glob over the path of a folder, from the root of its workspace on.
@@ -204,23 +204,23 @@ impl Pattern {
     }
 
     /// Returns whether the pattern matches the path. Fails only if an allocation fails.
-    pub fn takes(&self, alloc: Global, path: &[Vec<char>]) -> Result<bool, AllocError>
-        ensures { IfOk result (λ b. IsTrue b ↔ IsTakenBy self.now path.now) }
+    pub fn matches(&self, alloc: Global, path: &[Vec<char>]) -> Result<bool, AllocError>
+        ensures { IfOk result (λ b. IsTrue b ↔ IsMatchedBy self.now path.now) }
     {
-        are_taken(alloc, &self.components, path)
+        all_match(alloc, &self.components, path)
     }
 }
 
 /// Returns whether one of the patterns matches the path. Fails only if an allocation fails.
-pub fn some_takes(
+pub fn some_matches(
     alloc: Global,
     patterns: &[Pattern],
     path: &[Vec<char>],
 ) -> Result<bool, AllocError>
-    ensures { IfOk result (λ b. IsTrue b ↔ IsTakenBySome patterns.now path.now) }
+    ensures { IfOk result (λ b. IsTrue b ↔ IsMatchedBySome patterns.now path.now) }
 {
     for pattern in patterns {
-        if pattern.takes(alloc, path)? {
+        if pattern.matches(alloc, path)? {
             return Ok(true);
         }
     }

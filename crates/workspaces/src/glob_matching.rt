@@ -1,30 +1,30 @@
 //! Patterns of pieces, each of which matches one item or any number of them.
 
 ghost use Rattle.std.specs.Prelude.{◌≡◌, ◌+◌, ◌↔◌, ◌∷◌, [], ℕ, Bool, List, IfOk, IsTrue, OnOk, length, vec_len};
-ghost use Rattle.workspaces.specs.Stretches.{IsTaken};
+ghost use Rattle.workspaces.specs.Stretches.{IsMatched};
 ghost use Rattle.workspaces.specs.Rows.{IsRow};
 
 use std::alloc::{AllocError, Global};
 
 /// A piece of a pattern over items.
 pub trait Piece<T> {
-    // It takes any number of items, none too.
+    // It matches any number of items, none too.
     ghost is_many: { Self → Bool };
 
-    // It takes this item, where it takes one.
-    ghost takes: { Self → T → Type 0 };
+    // It matches this item, where it matches one.
+    ghost matches: { Self → T → Type 0 };
 
     /// Returns whether the piece matches any number of items, also none.
     fn is_many(&self) -> bool
         ensures { result ≡ is_many self.now };
 
     /// Returns whether the piece matches this item, if it matches one item.
-    fn takes(&self, alloc: Global, item: &T) -> Result<bool, AllocError>
-        ensures { IfOk result (λ b. IsTrue b ↔ takes self.now item.now) };
+    fn matches(&self, alloc: Global, item: &T) -> Result<bool, AllocError>
+        ensures { IfOk result (λ b. IsTrue b ↔ matches self.now item.now) };
 }
 
 /// Returns whether a piece and those after it match no items, if `fewer` says whether those after it do.
-fn takes_none_with<T, P: Piece<T>>(piece: &P, fewer: bool) -> bool
+fn matches_none_with<T, P: Piece<T>>(piece: &P, fewer: bool) -> bool
     ensures { IsTrue result ↔ IsTrue (P.is_many piece.now) × IsTrue fewer }
 {
     piece.is_many() && fewer
@@ -32,14 +32,14 @@ fn takes_none_with<T, P: Piece<T>>(piece: &P, fewer: bool) -> bool
 
 /// Returns for each number of last pieces whether these match no items.
 fn first_row<T, P: Piece<T>>(alloc: Global, pieces: &[P]) -> Result<Vec<bool>, AllocError>
-    ensures { IfOk result (λ row. IsRow P.is_many P.takes pieces.now [] row.items) }
+    ensures { IfOk result (λ row. IsRow P.is_many P.matches pieces.now [] row.items) }
 {
     let mut row = Vec::new(alloc);
     row.push(true)?;
     let mut before = true;
     for k in 0..pieces.len() {
         let piece = &pieces[pieces.len() - 1 - k];
-        before = takes_none_with::<T, P>(piece, before);
+        before = matches_none_with::<T, P>(piece, before);
         row.push(before)?;
     }
     Ok(row)
@@ -48,7 +48,7 @@ fn first_row<T, P: Piece<T>>(alloc: Global, pieces: &[P]) -> Result<Vec<bool>, A
 /// Returns whether a piece and those after it match an item and those after it. `fewer_pieces` says whether the pieces
 /// after it match these items, `fewer_items` whether all pieces match the items after it, and `fewer` whether the
 /// pieces after it match the items after it.
-fn is_taken_with<T, P: Piece<T>>(
+fn matches_with<T, P: Piece<T>>(
     alloc: Global,
     piece: &P,
     item: &T,
@@ -57,16 +57,16 @@ fn is_taken_with<T, P: Piece<T>>(
     fewer: bool,
 ) -> Result<bool, AllocError>
     ensures { IfOk result (λ b. (ps : List P) (xs : List T)
-        → IsTrue fewer_pieces ↔ IsTaken P.is_many P.takes ps (item.now ∷ xs)
-        → IsTrue fewer_items ↔ IsTaken P.is_many P.takes (piece.now ∷ ps) xs
-        → IsTrue fewer ↔ IsTaken P.is_many P.takes ps xs
-        → IsTrue b ↔ IsTaken P.is_many P.takes (piece.now ∷ ps) (item.now ∷ xs)) }
+        → IsTrue fewer_pieces ↔ IsMatched P.is_many P.matches ps (item.now ∷ xs)
+        → IsTrue fewer_items ↔ IsMatched P.is_many P.matches (piece.now ∷ ps) xs
+        → IsTrue fewer ↔ IsMatched P.is_many P.matches ps xs
+        → IsTrue b ↔ IsMatched P.is_many P.matches (piece.now ∷ ps) (item.now ∷ xs)) }
 {
     if piece.is_many() {
         return Ok(fewer_pieces || fewer_items);
     }
-    let takes = piece.takes(alloc, item)?;
-    Ok(takes && fewer)
+    let matches = piece.matches(alloc, item)?;
+    Ok(matches && fewer)
 }
 
 /// Puts an item before the others.
@@ -78,15 +78,15 @@ fn add_item<T, P: Piece<T>>(
 ) -> Result<(), AllocError>
     requires { vec_len row.old ≡ length pieces.now + 1 }
     ensures long { OnOk result (vec_len row.new ≡ length pieces.now + 1) }
-    ensures row { OnOk result ((xs : List T) → IsRow P.is_many P.takes pieces.now xs row.old.items
-        → IsRow P.is_many P.takes pieces.now (item.now ∷ xs) row.new.items) }
+    ensures row { OnOk result ((xs : List T) → IsRow P.is_many P.matches pieces.now xs row.old.items
+        → IsRow P.is_many P.matches pieces.now (item.now ∷ xs) row.new.items) }
 {
     let mut before = row[0];
     row[0] = false;
     for k in 0..pieces.len() {
         let piece = &pieces[pieces.len() - 1 - k];
         let was = row[k + 1];
-        row[k + 1] = is_taken_with(alloc, piece, item, row[k], was, before)?;
+        row[k + 1] = matches_with(alloc, piece, item, row[k], was, before)?;
         before = was;
     }
     Ok(())
@@ -94,12 +94,12 @@ fn add_item<T, P: Piece<T>>(
 
 /// Returns whether the items can be split into one stretch for each piece that this piece matches. Fails only if an
 /// allocation fails.
-pub fn are_taken<T, P: Piece<T>>(
+pub fn all_match<T, P: Piece<T>>(
     alloc: Global,
     pieces: &[P],
     items: &[T],
 ) -> Result<bool, AllocError>
-    ensures { IfOk result (λ b. IsTrue b ↔ IsTaken P.is_many P.takes pieces.now items.now) }
+    ensures { IfOk result (λ b. IsTrue b ↔ IsMatched P.is_many P.matches pieces.now items.now) }
 {
     let mut row = first_row(alloc, pieces)?;
     for k in 0..items.len() {

@@ -2,14 +2,14 @@ use Rattle.std.proofs.Common.{◌≡◌, ◌+◌, ◌-◌, ◌<◌, ◌≢◌, �
 use Rattle.std.proofs.Common.{get_or, ap, sym, subst, arith}
 use Rattle.std.proofs.lemmas.List.{get_or_default, length-set, get_or-set_other}
 use Rattle.std.specs.Prelude.{◌↔◌, IsTrue}
-use Rattle.workspaces.specs.Stretches.{IsTaken}
+use Rattle.workspaces.specs.Stretches.{IsMatched}
 use Rattle.workspaces.proofs.RowSteps.{last_pieces, written}
-use Rattle.workspaces.proofs.pieces.add_item.Goals as goal
+use Rattle.workspaces.proofs.glob_matching.add_item.Goals as goal
 
 pub loop-k-preserved : goal.loop-k-preserved
 loop-k-preserved g c =
     let m = g.P.Piece.is_many in
-    let t = g.P.Piece.takes in
+    let t = g.P.Piece.matches in
     let ps = c.args.pieces.now in
     let x = c.args.item.now in
     let k = c.loop-k.k in
@@ -31,16 +31,16 @@ loop-k-preserved g c =
     record {
       long = length-set row (k + 1) b ∙ long;
       each = λ xs rows j inside.
-          written row (k + 1) b (λ j. IsTaken m t (drop (length ps - j) ps) (x ∷ xs)) fits
+          written row (k + 1) b (λ j. IsMatched m t (drop (length ps - j) ps) (x ∷ xs)) fits
           (λ i below. c.loop-k.invariant.each xs rows i below)
-          (subst (λ (qs : List g.row.P.Denot). IsTrue b ↔ IsTaken m t qs (x ∷ xs)) (sym all)
+          (subst (λ (qs : List g.row.P.Denot). IsTrue b ↔ IsMatched m t qs (x ∷ xs)) (sym all)
           (c.in_ok-row.ensures lasts xs
-          (subst (λ (z : Bool). IsTrue z ↔ IsTaken m t lasts (x ∷ xs)) (sym here)
+          (subst (λ (z : Bool). IsTrue z ↔ IsMatched m t lasts (x ∷ xs)) (sym here)
           (c.loop-k.invariant.each xs rows k (omega arith)))
-          (subst (λ (z : Bool). IsTrue z ↔ IsTaken m t (p ∷ lasts) xs) (sym was)
-          (subst (λ (qs : List g.row.P.Denot). IsTrue (get_or old (k + 1) false) ↔ IsTaken m t qs xs) all
+          (subst (λ (z : Bool). IsTrue z ↔ IsMatched m t (p ∷ lasts) xs) (sym was)
+          (subst (λ (qs : List g.row.P.Denot). IsTrue (get_or old (k + 1) false) ↔ IsMatched m t qs xs) all
           (rows.each (k + 1) (omega (arith, c.loop-k-test.true)))))
-          (subst (λ (z : Bool). IsTrue z ↔ IsTaken m t lasts xs) (sym c.loop-k.invariant.last)
+          (subst (λ (z : Bool). IsTrue z ↔ IsMatched m t lasts xs) (sym c.loop-k.invariant.last)
           (rows.each k (omega (arith, c.loop-k-test.true))))))
           j (omega (arith, inside));
       left = λ j past.

@@ -1,12 +1,12 @@
 use Rattle.std.proofs.Common.{◌≡◌, ◌+◌, ◌-◌, ◌≤◌, ℕ, [], false, length, get_or, drop}
 use Rattle.std.specs.Prelude.{◌↔◌, IsTrue}
-use Rattle.workspaces.specs.Stretches.{IsTaken}
-use Rattle.workspaces.proofs.pieces.first_row.Given as goal
+use Rattle.workspaces.specs.Stretches.{IsMatched}
+use Rattle.workspaces.proofs.glob_matching.first_row.Given as goal
 
 abbrev pub invariant-loop-k : goal.invariant-loop-k
 invariant-loop-k g l = record {
   long : length l.row.items ≡ l.k + 1;
   each : (j : ℕ) → j ≤ l.k → IsTrue (get_or l.row.items j false)
-      ↔ IsTaken g.P.Piece.is_many g.P.Piece.takes (drop (length l.pieces - j) l.pieces) [];
+      ↔ IsMatched g.P.Piece.is_many g.P.Piece.matches (drop (length l.pieces - j) l.pieces) [];
   last : l.before ≡ get_or l.row.items l.k false;
 }

@@ -1,8 +1,0 @@
-use Rattle.std.proofs.Common.{ℕ, ◌≡◌, ◌<◌, get_or}
-use Rattle.workspaces.specs.Members.{IsTakenBy}
-use Rattle.workspaces.specs.declared.patterns.Pattern.{Pattern}
-use Rattle.workspaces.proofs.patterns.some_takes.Given as goal
-
-abbrev pub invariant-loop-pattern : goal.invariant-loop-pattern
-invariant-loop-pattern l =
-    (p : Pattern) (k : ℕ) → k < l.pattern-index → get_or l.patterns k p ≡ p → IsTakenBy p l.path → ⊥

@@ -1,7 +1,0 @@
-use Rattle.std.proofs.Common.{◌-◌, length, drop}
-use Rattle.workspaces.specs.Rows.{IsRow}
-use Rattle.workspaces.proofs.pieces.are_taken.Given as goal
-
-abbrev pub invariant-loop-k : goal.invariant-loop-k
-invariant-loop-k g l =
-    IsRow g.P.Piece.is_many g.P.Piece.takes l.pieces (drop (length l.items - l.k) l.items) l.row.items
