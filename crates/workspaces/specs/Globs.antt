@@ -30,7 +30,7 @@ abbrev pub is_folders : Component → Bool
 is_folders component.Folders = true
 is_folders (component.Named parts) = false
 
--- another component takes a folder whose name is stretches, one for each of its parts
+-- another component matches a folder whose name is stretches, one for each of its parts
 abbrev pub IsNamedBy : Component → List ℕ → Type 0
 IsNamedBy component.Folders name = ⊥
 IsNamedBy (component.Named parts) name = IsMatched is_any IsOne parts.items name

@@ -138,7 +138,7 @@ fn means(alloc: Global, text: &str, candidate: &Candidate) -> Result<bool, Alloc
     Ok(has_version && matches_name(alloc, name, candidate.name.as_str())?)
 }
 
-/// Returns whether a glob takes a path, or one of a folder above it, by the names of the path.
+/// Returns whether a glob matches a path, or one of a folder above it, by the names of the path.
 fn matches_above(alloc: Global, glob: &str, path: &str) -> Result<bool, AllocError> {
     let pattern = match Pattern::from_str(alloc, glob) {
         Ok(pattern) => pattern,
