@@ -22,6 +22,7 @@ mod patterns;
 pub use components::{CharacterRange, Characters, Component, Name, Part};
 pub use documents::{Document, Documents};
 pub use finding::{Found, ManifestSelection, current_folder_depth, find, put_text, root_of};
+pub use glob_matching::{Piece, all_match};
 pub use inheritance::{Inheritable, inherits_lints};
 pub use inherited::{
     inherits, is_of_2024, mistyped, mistyped_beside, put_inherited, uninheritable,
@@ -34,4 +35,3 @@ pub use member_rules::Rules;
 pub use patterns::{
     Fault, Pattern, PatternError, is_glob, names_of, plain_components, some_matches,
 };
-pub use pieces::{Piece, all_match};
