@@ -259,11 +259,9 @@ text_added old new text pushed =
     (ap texts_in pushed ∙ map-append (λ (t : Bor (List ℕ)). t.now) old (text ∷ []))
 
 -- the first texts, with one more
-pub texts_more : (xs : List (Bor (List ℕ))) (i : ℕ) (default : Bor (List ℕ)) → i < length xs
-    → Adds (texts_in (take i xs)) (texts_in (take (i + 1) xs)) (λ t. (get_or xs i default).now ≡ t)
-texts_more xs i default below =
-    let x : Bor (List ℕ) = get_or xs i default in
-    let is : x ≡ get_or xs i x = get_or_default xs i default x below in
+pub texts_more : (xs : List (Bor (List ℕ))) (i : ℕ) (x : Bor (List ℕ)) → i < length xs → x ≡ get_or xs i x
+    → Adds (texts_in (take i xs)) (texts_in (take (i + 1) xs)) (λ t. x.now ≡ t)
+texts_more xs i x below is =
     text_added (take i xs) (take (i + 1) xs) x
     (take_more xs i x below ∙ ap (λ (g : Bor (List ℕ)). take i xs ++ g ∷ []) (sym is))
 

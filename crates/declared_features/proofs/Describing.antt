@@ -1,6 +1,6 @@
 -- The packages of nodes, while they are described.
 use Rattle.std.proofs.Common.{◌≡◌, ℕ, ◌+◌, ◌<◌, ◌≤◌, List, [], ◌∷◌, ◌++◌, length, get_or, take, sym, ◌∙◌, ap}
-use Rattle.std.proofs.Common.{subst, ◌⊎◌, inl, inr, Option, Some, None, arith, Vec}
+use Rattle.std.proofs.Common.{subst, ◌⊎◌, inl, inr, Option, Some, None, arith, Vec, Bool, true, false, cond}
 use Rattle.std.specs.Prelude.{Contains, slice_get, option_and_then}
 use Rattle.std.specs.Global.{Global}
 use Rattle.std.proofs.lemmas.Bool.{cases_lt}
@@ -13,6 +13,7 @@ use Rattle.declared_features.specs.Manifests.{feature_index, features_in, featur
 use Rattle.declared_features.specs.Members.{FeatureIndexes, HasListsOf}
 use Rattle.declared_features.specs.Edges.{IsOf}
 use Rattle.declared_features.specs.Requests.{IsLink}
+use Rattle.declared_features.specs.Requested.{HasLast}
 use Rattle.declared_features.specs.Described.{IsDescribed, IsDescribedAt}
 use Rattle.cargo_metadata.specs.Indexes.{index_at}
 use Rattle.declared_features.specs.Inside.Names.{AreNamesOf, AreNamesBelow}
@@ -203,6 +204,29 @@ lists_grown IsMember features lists new more is has = record {
         subst (λ (l : List (Vec Member Global)). slice_get l k ≡ Some it.0) (sym is) (get_grown lists more k it.0 it.1),
         it.2,
       );
+}
+
+-- one more list, if the package is concerned
+pub last_pushed : (concerned : Bool) (IsLast : List Member → Type 0) (count : ℕ) (lists new : List (Vec Member Global))
+    (members : Vec Member Global) → concerned ≡ true → length lists ≡ count → new ≡ lists ++ members ∷ []
+    → IsLast members.items → HasLast concerned IsLast count new
+last_pushed concerned IsLast count lists new members is same pushed last = record {
+  lengths =
+      ap length pushed ∙ length_push lists members ∙ ap (λ (n : ℕ). n + 1) same
+      ∙ sym (ap (λ (b : Bool). cond b (count + 1) count) is);
+  last = λ e. (
+    members,
+    ap (λ (l : List (Vec Member Global)). slice_get l count) pushed
+        ∙ ap (λ (n : ℕ). slice_get (lists ++ members ∷ []) n) (sym same) ∙ get_last lists members,
+    last,
+  );
+}
+
+pub none_pushed : (concerned : Bool) (IsLast : List Member → Type 0) (count : ℕ) (lists : List (Vec Member Global))
+    → concerned ≡ false → length lists ≡ count → HasLast concerned IsLast count lists
+none_pushed concerned IsLast count lists is same = record {
+  lengths = same ∙ sym (ap (λ (b : Bool). cond b (count + 1) count) is);
+  last = λ e. absurd cc;
 }
 
 pub lists_more : (IsMember : List FeatureEntry → Member → Type 0) (features : List Feature) (i : ℕ) (f : Feature)

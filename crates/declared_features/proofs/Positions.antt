@@ -4,6 +4,7 @@ use Rattle.std.proofs.Common.{refl, sym, ◌∙◌, ap, Option, Some, None, arit
 use Rattle.std.specs.Prelude.{◌==◌, bytes_eq}
 use Rattle.std.specs.List.{position_from}
 use Rattle.std.proofs.lemmas.List.{take_more, take_all, length-take-le, ext_get_or, length-map, get_or-map}
+use Rattle.std.proofs.lemmas.List.{get_or_default}
 use Rattle.std.proofs.lemmas.Slice.Eq.{bytes_eq-Decides}
 use Rattle.declared_features.specs.Edges.{underscored, AreSame}
 use Rattle.cargo_metadata.specs.Indexes.{indexed}
@@ -76,6 +77,17 @@ index_more {X} name xs i x old new below is added before q =
     ∙ indexing_after (old n) (old q) (bytes_eq n q) i (λ h. ap old ((bytes_eq-Decides n q).0 h))
     ∙ ap (λ (o : Option ℕ). after o (cond (bytes_eq n q) (Some i) None)) (before q)
     ∙ sym shifted ∙ sym whole
+
+-- an element that is copied
+pub index_copied : {X : Type 0} (name : X → List ℕ) (xs : List X) (i : ℕ) (default : X) (old new : List ℕ → Option ℕ)
+    → i < length xs
+    → ((q : List ℕ) → new q
+    ≡ indexed (old (name (get_or xs i default))) (name (get_or xs i default)) i q (old q))
+    → ((q : List ℕ) → old q ≡ position_from (λ y. bytes_eq (name y) q) 0 (take i xs)) → (q : List ℕ)
+    → new q ≡ position_from (λ y. bytes_eq (name y) q) 0 (take (i + 1) xs)
+index_copied name xs i default old new below =
+    index_more name xs i (get_or xs i default) old new below
+    (get_or_default xs i default (get_or xs i default) below)
 
 pub index_whole : {X : Type 0} (name : X → List ℕ) (xs : List X) (i : ℕ) (at : List ℕ → Option ℕ) → length xs ≤ i
     → ((q : List ℕ) → at q ≡ position_from (λ y. bytes_eq (name y) q) 0 (take i xs)) → (q : List ℕ)

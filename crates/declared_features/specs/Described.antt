@@ -33,7 +33,7 @@ pub record IsDescribed (graph : Declaring) (requested : RequestedFeatures) (at :
   pub last : HasLast (is_concerned requested node unit)
       (AreRequested requested (name_at graph node) at node found (length (features_at graph.declared.now node)))
       (length (features_at graph.declared.now node)) unit_of.features.items
-  pub requests : unit_of.requested.items ≡ cond unit.is_root (length unit_of.features.items - 1 ∷ []) []
+  pub requests : unit_of.requested.items ≡ cond unit.is_root ((length unit_of.features.items - 1) ∷ []) []
 
 -- the described package at the index of a node is that of the node
 pub record IsDescribedAt (graph : Declaring) (requested : RequestedFeatures) (at : FeatureIndexes)

@@ -410,7 +410,7 @@ fn lists_of<'a>(
 
 /// Returns the features that are requested of a package: the last of this many, if it is a root.
 fn requests_of_root(alloc: Global, is_root: bool, count: usize) -> Result<Vec<usize>, AllocError>
-    ensures { IfOk result (λ requested. requested.items ≡ cond is_root (count - 1 ∷ []) []) }
+    ensures { IfOk result (λ requested. requested.items ≡ cond is_root ((count - 1) ∷ []) []) }
 {
     let mut requested = Vec::new(alloc);
     if is_root {

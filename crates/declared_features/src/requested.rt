@@ -146,8 +146,9 @@ impl<'a> RequestedFeatures<'a> {
     {
         let texts = self.texts(alloc, called, node)?;
         let mut entries = Vec::new(alloc);
-        'texts: for i in 0..texts.len() {
-            entries.push(entry_of(texts[i]))?;
+        'each: for i in 0..texts.len() {
+            let text = texts[i];
+            entries.push(entry_of(text))?;
         }
         Ok(entries)
     }

@@ -36,5 +36,5 @@ returns c =
           c.deref.ensures.value c.in_ok-features.ensures.last;
       requests =
           c.in_ok-of_root.ensures
-          ∙ ap (λ (n : ℕ). cond unit.is_root (n - 1 ∷ []) []) (c.len.ensures ∙ lists.ok.0);
+          ∙ ap (λ (n : ℕ). cond unit.is_root ((n - 1) ∷ []) []) (c.len.ensures ∙ lists.ok.0);
     }

@@ -8,4 +8,4 @@ use Rattle.declared_features.proofs.manifests.features_of.Given as goal
 abbrev pub invariant-members : goal.invariant-members
 invariant-members l =
     (more : List Feature) → AreFeatures (members_view l.name-iterator) more
-    → AreFeatures (members_view l.members.entries) (l.features.items ++ more)
+    → AreFeatures (members_view l.initial.name-iterator) (l.features.items ++ more)

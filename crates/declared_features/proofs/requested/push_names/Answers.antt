@@ -1,5 +1,4 @@
-use Rattle.std.proofs.Common.{◌≡◌, ℕ, List, Bor, subst, get_or}
-use Rattle.declared_features.specs.Lists.{Adds}
+use Rattle.std.proofs.Common.{◌≡◌, get_or}
 use Rattle.declared_features.specs.Inside.Names.{texts_in}
 use Rattle.declared_features.proofs.Collecting.{adding_start, adding_next, adding_end, text_added}
 use Rattle.declared_features.proofs.requested.push_names.Goals as goal
@@ -8,7 +7,12 @@ pub names-init : goal.names-init
 names-init c = adding_start (texts_in c.args.texts.now.items) c.args.names.now (λ name t. name.now ≡ t)
 
 pub names-preserved : goal.names-preserved
-names-preserved c = ?
+names-preserved c =
+    adding_next (texts_in c.args.texts.now.items) (texts_in c.names.texts.items) (texts_in c.push.new.self.items)
+    c.args.names.now c.names.i _ (λ name t. name.now ≡ t) c.names-test.true
+    (text_added c.names.texts.items c.push.new.self.items (get_or c.args.names.now c.names.i _)
+    c.in_ok-push.ensures.items)
+    c.names.invariant
 
 pub returns : goal.returns
 returns c =
