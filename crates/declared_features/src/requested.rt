@@ -175,9 +175,9 @@ fn unused(
     })
 }
 
-/// Returns a root that makes the package at a place active, with what is requested of it and with its
-/// dev-dependencies, if
-/// that package is no root. Resolver 1 does so wherever a dependency is true, and a build uses neither.
+/// Returns a root that makes the package at an index active, with what is requested of it and with its
+/// dev-dependencies, if that package is no root. Resolver 1 does so wherever a dependency is true, and a build uses
+/// neither.
 pub fn starter_of(
     alloc: Global,
     packages: &[Package],
