@@ -35,6 +35,9 @@
 	install-library wheel dist take measure targets fmt fits refusals second-reader manifests workspaces graphs \
 	relations cargo-select try-c pages depths rt
 
+# What a target needs is made in the order in which it is named, also with -j.
+.NOTPARALLEL:
+
 PROGRAM := crates/platform_check
 CHECK := crates/manifest_check
 UNPROVED_BUILDS := out/unproved/platform_check/platform_check out/unproved/manifest_check/manifest_check
@@ -81,7 +84,8 @@ install-programs:
 	cp -R share/. "$(DESTDIR)$(PREFIX)/share"
 
 say-how-long:
-	@echo "proving both programs and every crate below them: the first time, this takes nearly as long as \`make prove\`"
+	@echo "proving both programs and every crate below them: the first time, this takes nearly as long as \`make prove\`,"
+	@echo "whose minutes docs/GATE.md states"
 	@echo "\`make install UNPROVED=yes\` takes minutes and proves nothing"
 
 ifdef UNPROVED

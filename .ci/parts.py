@@ -9,9 +9,54 @@ import re
 # A function that is at most so many characters long is a small one.
 SMALL = 2500
 
-FUNCTION = re.compile(r'^define (?P<internal>internal )?(?P<type>[^@\n]*)@(?P<name>"[^"]*"|[\w.]+)'
-                      r"\((?P<parameters>[^\n]*)\)(?P<attributes>[^\n]*) \{\n.*?^\}\n", re.M | re.S)
+HEADER = re.compile(r'define (?P<internal>internal )?(?P<type>[^@\n]*)@(?P<name>"[^"]*"|[\w.]+)'
+                    r"\((?P<parameters>[^\n]*)\)(?P<attributes>[^\n]*) \{\n")  # fmt: skip
 USE = re.compile(r'@("[^"]*"|[\w.]+)')
+COMMENT = re.compile(r"^(?:;.*)?\n", re.M)
+
+
+class Module:
+    """The functions of a module by their names, without the lines that match `unneeded`, and all else that is in it."""
+
+    def __init__(self, text, unneeded):
+        *functions, rest = text.split("\n}\n")
+        starts = [it.rindex("\ndefine ") + 1 for it in functions]
+        self.others = COMMENT.sub("", "\n".join([*(it[:at] for it, at in zip(functions, starts)), rest]))
+        texts = [it[at:] + "\n}\n" for it, at in zip(functions, starts)]
+        self.headers = {it["name"]: it for it in map(HEADER.match, texts)}
+        self.texts, self.unneeded, self.called = dict(zip(self.headers, texts)), unneeded, {}
+
+    def uses(self, name):
+        """The functions that a function names."""
+        if name not in self.called:
+            self.texts[name] = self.unneeded.sub("", self.texts[name])
+            self.called[name] = {it for it in USE.findall(self.texts[name]) if it in self.texts}
+        return self.called[name]
+
+    def size(self, name):
+        return len(self.texts[name])
+
+    def is_internal(self, name):
+        return self.headers[name]["internal"] is not None
+
+    def declared(self, name):
+        """The declaration of a function that another part defines."""
+        header = self.headers[name]
+        parameters = re.sub(r" %a\d+", "", header["parameters"])
+        hidden = "hidden " if header["internal"] else ""
+        return f"declare {hidden}{header['type']}@{name}({parameters}){header['attributes']}\n"
+
+    def defined(self, name, is_large):
+        """The definition of a function, which other parts see if it is large."""
+        text = self.texts[name]
+        return text.replace("define internal", "define hidden", 1) if is_large else text
+
+    def part(self, own, large):
+        """The text of the part with these large functions."""
+        inside = reached(own, lambda name: [it for it in self.uses(name) if it in own or it not in large])
+        outside = {it for name in inside for it in self.uses(name)} - inside
+        return "\n".join([self.others, *(self.defined(it, it in large) for it in self.texts if it in inside),
+                          *(self.declared(it) for it in self.texts if it in outside)])
 
 
 def reached(names, uses):
@@ -27,37 +72,20 @@ def reached(names, uses):
 
 def divided(names, sizes, count):
     """The names in so many lists, in their order, each with about as much as the others."""
-    lists, passed, whole = [[] for _ in range(count)], 0, sum(sizes[it] for it in names) + 1
+    lists, passed, whole = [[] for _ in range(count)], 0, sum(map(sizes, names)) + 1
     for name in names:
         lists[passed * count // whole].append(name)
-        passed += sizes[name]
+        passed += sizes(name)
     return lists
 
 
-def declared(function):
-    """The declaration of a function that another part defines."""
-    parameters = re.sub(r" %a\d+", "", function["parameters"])
-    hidden = "hidden " if function["internal"] else ""
-    return f"declare {hidden}{function['type']}@{function['name']}({parameters}){function['attributes']}\n"
-
-
-def defined(function, is_large):
-    """The definition of a function, which other parts see if it is large."""
-    return function[0].replace("define internal", "define hidden", 1) if is_large else function[0]
-
-
-def parts(module, count):
-    """The text of each part of a module, which is a text too."""
-    functions = {it["name"]: it for it in FUNCTION.finditer(module)}
-    others = FUNCTION.sub("", module)
-    uses = {name: {it for it in USE.findall(found[0]) if it in functions} for name, found in functions.items()}
-    sizes = {name: len(found[0]) for name, found in functions.items()}
-    used = reached([name for name, found in functions.items() if not found["internal"]], uses.get)
-    large = {name for name in used if sizes[name] > SMALL or not functions[name]["internal"]}
-    texts = []
-    for own in divided(sorted(large), sizes, count):
-        inside = reached(own, lambda name, own=set(own): [it for it in uses[name] if it in own or it not in large])
-        outside = {it for name in inside for it in uses[name]} - inside
-        texts.append("\n".join([others, *(defined(functions[it], it in large) for it in functions if it in inside),
-                                *(declared(functions[it]) for it in functions if it in outside)]))
-    return texts
+def parts(text, count, unneeded, alone=()):
+    """The text of each part of a module, and then that of a part with the functions `alone`, if there are any. Lines
+    that match `unneeded` are left out."""
+    module = Module(text, unneeded)
+    used = reached([it for it in module.texts if not module.is_internal(it)], module.uses)
+    large = {it for it in used if module.size(it) > SMALL or not module.is_internal(it)} - {*alone}
+    large |= {it for name in alone for it in module.uses(name)} - {*alone}
+    lists = divided(sorted(large), module.size, count)
+    lists += [[*alone]] if alone else []
+    return [module.part({*own}, large | {*alone}) for own in lists]

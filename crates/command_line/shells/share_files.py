@@ -213,6 +213,8 @@ FILES = {
     f"man/man1/{PROGRAM}.1": man_page(),
     "man/man1/cargo-manifest-check.1": f".so man1/{PROGRAM}.1\n",
     f"bash-completion/completions/{PROGRAM}": bash(),
+    # bash loads this one for `cargo manifest-check`, with bash-completion 2.12 or newer.
+    f"bash-completion/completions/{PLUGIN}": f'. "${{BASH_SOURCE[0]%/*}}/{PROGRAM}"\n',
     f"zsh/site-functions/_{PROGRAM}": zsh(),
     # zsh calls this one for `cargo manifest-check`.
     f"zsh/site-functions/_{PLUGIN}": f'#compdef {PLUGIN}\n_{PROGRAM} "$@"\n',
