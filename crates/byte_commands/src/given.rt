@@ -1,6 +1,7 @@
 //! The arguments and the files that a caller hands over.
 
-ghost use Rattle.std.specs.Prelude.{◌≤◌};
+ghost use Rattle.std.specs.Prelude.{◌≡◌, ◌≤◌, ◌++◌, ◌∷◌, [], IfOk, IfSome, OnOk, map, string_bytes};
+ghost use Rattle.byte_commands.specs.Given.{AreArguments, HasNoNul};
 
 use memory_files::GivenFile;
 use std::alloc::{AllocError, Global};
@@ -57,39 +58,50 @@ impl From<AllocError> for Misread {
     }
 }
 
-/// Returns the name of the program, and the arguments in a text, with a NUL between them. Without a text, there are no
-/// arguments.
-fn arguments_of(alloc: Global, text: Option<&str>) -> Result<Vec<String>, AllocError> {
-    let mut arguments = Vec::new(alloc);
-    arguments.push(String::from_str(alloc, PROGRAM)?)?;
-    if let Some(text) = text {
-        for argument in text.split('\0') {
-            arguments.push(String::from_str(alloc, argument)?)?;
+/// Returns the bytes before the first NUL, and those after it, if there is one.
+fn divided(bytes: &[u8]) -> Option<(&[u8], &[u8])>
+    ensures { IfSome result (λ p. (bytes.now ≡ p.0.now ++ 0 ∷ p.1.now) × HasNoNul p.0.now) }
+{
+    let mut at = 0;
+    let mut left = bytes;
+    'bytes: while let Some((first, others)) = left.split_first() {
+        if *first == 0 {
+            let (before, _rest) = bytes.split_at_checked(at)?;
+            return Some((before, others));
         }
+        at += 1;
+        left = others;
+    }
+    None
+}
+
+/// Appends a text to the arguments.
+fn push_text(alloc: Global, arguments: &mut Vec<String>, text: &str) -> Result<(), AllocError>
+    ensures { OnOk result
+        (map string_bytes arguments.new.items ≡ map string_bytes arguments.old.items ++ text.now ∷ []) }
+{
+    arguments.push(String::from_str(alloc, text)?)?;
+    Ok(())
+}
+
+/// Returns the arguments in these bytes, each of which ends with a NUL, behind the name of the program.
+fn arguments_in(alloc: Global, bytes: &[u8]) -> Result<Vec<String>, Misread>
+    ensures { IfOk result (λ arguments. AreArguments bytes.now (map string_bytes arguments.items)) }
+{
+    let mut arguments = Vec::new(alloc);
+    push_text(alloc, &mut arguments, PROGRAM)?;
+    let mut left = bytes;
+    'words: while !left.is_empty() {
+        let Some((word, others)) = divided(left) else {
+            return Err(Misread::Form(Part::Arguments));
+        };
+        let Ok(word) = str::from_utf8(word) else {
+            return Err(Misread::NotUtf8(Part::Arguments));
+        };
+        push_text(alloc, &mut arguments, word)?;
+        left = others;
     }
     Ok(arguments)
-}
-
-/// Returns the arguments in a text, each of which ends with a NUL, behind the name of the program.
-fn arguments_in(alloc: Global, bytes: &[u8]) -> Result<Vec<String>, Misread> {
-    let Ok(text) = str::from_utf8(bytes) else {
-        return Err(Misread::NotUtf8(Part::Arguments));
-    };
-    if text.is_empty() {
-        return Ok(arguments_of(alloc, None)?);
-    }
-    match text.strip_suffix('\0') {
-        Some(text) => Ok(arguments_of(alloc, Some(text))?),
-        None => Err(Misread::Form(Part::Arguments)),
-    }
-}
-
-/// Returns the bytes before the first NUL, and those after it, if there is one.
-fn divided(bytes: &[u8]) -> Option<(&[u8], &[u8])> {
-    let place = bytes.iter().position(|byte| *byte == 0)?;
-    let (before, rest) = bytes.split_at_checked(place)?;
-    let (_nul, after) = rest.split_first()?;
-    Some((before, after))
 }
 
 /// The name, the bytes of a file, and the bytes after them.
@@ -106,7 +118,9 @@ fn first_in(bytes: &[u8]) -> Option<Entry<'_>> {
 
 impl<'a> Given<'a> {
     /// Adds a file, or sets standard input.
-    fn add(&mut self, alloc: Global, name: &str, bytes: &'a [u8]) -> Result<(), AllocError> {
+    fn add(&mut self, alloc: Global, name: &str, bytes: &'a [u8]) -> Result<(), AllocError>
+        ensures { OnOk result (self.new.arguments ≡ self.old.arguments) }
+    {
         if name == INPUT {
             self.input = bytes;
             return Ok(());
@@ -116,9 +130,11 @@ impl<'a> Given<'a> {
     }
 
     /// Adds the files in these bytes.
-    fn add_all(&mut self, alloc: Global, bytes: &'a [u8]) -> Result<(), Misread> {
+    fn add_all(&mut self, alloc: Global, bytes: &'a [u8]) -> Result<(), Misread>
+        ensures { OnOk result (self.new.arguments ≡ self.old.arguments) }
+    {
         let mut rest = bytes;
-        for _ in 0..bytes.len() {
+        'files: for _ in 0..bytes.len() {
             if rest.is_empty() {
                 return Ok(());
             }
@@ -136,11 +152,9 @@ impl<'a> Given<'a> {
 }
 
 /// Returns what the arguments of a call hand over.
-pub fn given_by<'a>(
-    alloc: Global,
-    arguments: &[u8],
-    files: &'a [u8],
-) -> Result<Given<'a>, Misread> {
+pub fn given_by<'a>(alloc: Global, arguments: &[u8], files: &'a [u8]) -> Result<Given<'a>, Misread>
+    ensures { IfOk result (λ given. AreArguments arguments.now (map string_bytes given.arguments.items)) }
+{
     let mut given = Given {
         arguments: arguments_in(alloc, arguments)?,
         files: Vec::new(alloc),
