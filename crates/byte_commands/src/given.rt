@@ -1,7 +1,8 @@
 //! The arguments and the files that a caller hands over.
 
 ghost use Rattle.std.specs.Prelude.{◌≡◌, ◌≤◌, ◌++◌, ◌∷◌, [], IfOk, IfSome, OnOk, map, string_bytes};
-ghost use Rattle.byte_commands.specs.Given.{AreArguments, HasNoNul};
+ghost use Rattle.std.specs.Prelude.{bytes_eq, if◌then◌else◌};
+ghost use Rattle.byte_commands.specs.Given.{AreArguments, AreFiles, IsEntry, HasNoNul, contents_of, entry_bytes, entry_of};
 
 use memory_files::GivenFile;
 use std::alloc::{AllocError, Global};
@@ -104,22 +105,39 @@ fn arguments_in(alloc: Global, bytes: &[u8]) -> Result<Vec<String>, Misread>
     Ok(arguments)
 }
 
-/// The name, the bytes of a file, and the bytes after them.
-type Entry<'a> = (&'a [u8], &'a [u8], &'a [u8]);
+/// A file that is handed over, and the bytes after it.
+#[derive(Clone, Copy, Drop)]
+struct First<'a> {
+    name: &'a [u8],
+    digits: &'a [u8],
+    content: &'a [u8],
+    after: &'a [u8],
+}
 
 /// Returns the first file in these bytes: its name, a NUL, its length in decimal digits, a NUL, and its bytes.
-fn first_in(bytes: &[u8]) -> Option<Entry<'_>> {
+fn first_in(bytes: &[u8]) -> Option<First<'_>>
+    ensures { IfSome result (λ f. (bytes.now ≡ entry_bytes (entry_of f) ++ f.after.now) × IsEntry (entry_of f)) }
+{
     let (name, rest) = divided(bytes)?;
     let (digits, rest) = divided(rest)?;
     let length = str::from_utf8(digits).ok()?.parse::<usize>().ok()?;
-    let (file, after) = rest.split_at_checked(length)?;
-    Some((name, file, after))
+    let (content, after) = rest.split_at_checked(length)?;
+    Some(First {
+        name,
+        digits,
+        content,
+        after,
+    })
 }
 
 impl<'a> Given<'a> {
     /// Adds a file, or sets standard input.
     fn add(&mut self, alloc: Global, name: &str, bytes: &'a [u8]) -> Result<(), AllocError>
-        ensures { OnOk result (self.new.arguments ≡ self.old.arguments) }
+        ensures arguments { OnOk result (self.new.arguments ≡ self.old.arguments) }
+        ensures files { OnOk result (contents_of self.new.files.items
+            ≡ contents_of self.old.files.items ++ (if bytes_eq name.now INPUT.now then [] else bytes.now ∷ [])) }
+        ensures input { OnOk result (self.new.input.now
+            ≡ (if bytes_eq name.now INPUT.now then bytes.now else self.old.input.now)) }
     {
         if name == INPUT {
             self.input = bytes;
@@ -131,21 +149,21 @@ impl<'a> Given<'a> {
 
     /// Adds the files in these bytes.
     fn add_all(&mut self, alloc: Global, bytes: &'a [u8]) -> Result<(), Misread>
-        ensures { OnOk result (self.new.arguments ≡ self.old.arguments) }
+        requires none { self.old.files.items ≡ [] }
+        requires no_input { self.old.input.now ≡ [] }
+        ensures arguments { OnOk result (self.new.arguments ≡ self.old.arguments) }
+        ensures files { OnOk result (AreFiles bytes.now (contents_of self.new.files.items) self.new.input.now) }
     {
-        let mut rest = bytes;
-        'files: for _ in 0..bytes.len() {
-            if rest.is_empty() {
-                return Ok(());
-            }
-            let Some((name, file, after)) = first_in(rest) else {
+        let mut left = bytes;
+        'files: while !left.is_empty() {
+            let Some(first) = first_in(left) else {
                 return Err(Misread::Form(Part::Files));
             };
-            let Ok(name) = str::from_utf8(name) else {
+            let Ok(name) = str::from_utf8(first.name) else {
                 return Err(Misread::NotUtf8(Part::Files));
             };
-            self.add(alloc, name, file)?;
-            rest = after;
+            self.add(alloc, name, first.content)?;
+            left = first.after;
         }
         Ok(())
     }
@@ -153,7 +171,8 @@ impl<'a> Given<'a> {
 
 /// Returns what the arguments of a call hand over.
 pub fn given_by<'a>(alloc: Global, arguments: &[u8], files: &'a [u8]) -> Result<Given<'a>, Misread>
-    ensures { IfOk result (λ given. AreArguments arguments.now (map string_bytes given.arguments.items)) }
+    ensures arguments { IfOk result (λ given. AreArguments arguments.now (map string_bytes given.arguments.items)) }
+    ensures files { IfOk result (λ given. AreFiles files.now (contents_of given.files.items) given.input.now) }
 {
     let mut given = Given {
         arguments: arguments_in(alloc, arguments)?,

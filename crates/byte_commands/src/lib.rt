@@ -6,7 +6,7 @@ ghost use Rattle.std.specs.Prelude.{◌≡◌, ◌≢◌, ◌≤◌, ℕ, List, 
 ghost use Rattle.byte_answers.specs.Outcomes.{HasNoAnswer, HasNoSpan, IsSilent, IsWritten};
 ghost use Rattle.key_answers.specs.Printing.{code_of};
 ghost use Rattle.byte_commands.specs.Answers.{IsAnswer, IsAnswerOf};
-ghost use Rattle.byte_commands.specs.Given.{AreArguments};
+ghost use Rattle.byte_commands.specs.Given.{AreArguments, AreFiles, contents_of};
 
 mod given;
 
@@ -103,11 +103,12 @@ pub fn run_by<'a, F: FnOnce(Given<'a>) -> Result<Answer, AllocError>>(
 ) -> Outcome
     // The command may be called with everything that can be handed over.
     requires { F.IsAlwaysCallable command }
-    // With `DONE`, exactly the output and the errors of an answer that the command returned for the arguments in the
-    // bytes are written, if the buffer is long enough; `argument` is the exit status of this answer, and the errors are
-    // from `start` to `end`.
+    // With `DONE`, exactly the output and the errors of an answer that the command returned are written, if the buffer
+    // is long enough; `argument` is the exit status of this answer, and the errors are from `start` to `end`. The
+    // command was called with the arguments, the contents of the files and the standard input in the bytes.
     ensures done { result.code ≡ DONE → (given : Given) × ((answer : Answer)
         × (AreArguments arguments.now (map string_bytes given.arguments.items)
+        × AreFiles files.now (contents_of given.files.items) given.input.now
         × F.post command given (Ok answer) × IsAnswerOf answer result out.old out.new)) }
     // With `REFUSED`, a reason is written if the buffer is long enough.
     ensures refused { result.code ≡ REFUSED → (text : List ℕ) × IsWritten text result.needed out.old out.new }
