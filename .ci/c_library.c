@@ -59,6 +59,7 @@ CALL(equivalent, TEXT(0), TEXT(1), splits)
 CALL(excludes, TEXT(0), TEXT(1), splits)
 CALL(can_hold, TEXT(0), splits)
 CALL(matches, TEXT(0), TEXT(1), TEXT(2))
+CALL(match_keys, TEXT(0), TEXT(1), TEXT(2))
 CALL(prepare_facts, TEXT(0))
 CALL(targets, TEXT(0), (uint64_t[NEVGRASI_WORDS]){0})
 CALL(graph, TEXT(0), TEXT(1))
@@ -278,6 +279,51 @@ static void try_place(call *made, question q, uint32_t code, uint32_t argument, 
     expect_zeros(&o, q.name);
     let_go(&q);
 }
+
+/* Texts one after the other, each behind its length, in a block of their own length. */
+static bytes counted_texts(const bytes *listed, size_t count) {
+    size_t size = 0, at = 0;
+    for (size_t k = 0; k < count; k++) size += 8 + listed[k].size;
+    uint8_t *all = malloc(size);
+    for (size_t k = 0; k < count; k++) {
+        for (int byte = 0; byte < 8; byte++) all[at++] = (uint8_t)(listed[k].size >> 8 * byte);
+        if (listed[k].size) memcpy(all + at, listed[k].at, listed[k].size);
+        at += listed[k].size;
+    }
+    return (bytes){all, size};
+}
+
+/* The byte that stands for what a key answers: twice the code, and 1 more for yes. */
+static uint8_t byte_of_key(bytes key, bytes name, bytes lines) {
+    nevgrasi_outcome o;
+    nevgrasi_matches(key.at, key.size, name.at, name.size, lines.at, lines.size, NULL, 0, &o);
+    return (uint8_t)(2 * o.code + o.holds);
+}
+
+/* Many keys at once: these bytes, and each is what the key answers alone. */
+static void try_keys(const char *what, const bytes *keys, size_t count, const char *name, const char *lines,
+                     const uint8_t *wanted) {
+    question q = {what, {counted_texts(keys, count), copied(name, strlen(name)), copied(lines, strlen(lines))}};
+    uint8_t *out = calloc(count + 1, 1);
+    nevgrasi_outcome o;
+    expect(match_keys(&q, out, count, &o) == NEVGRASI_DONE && o.needed == count, "another length", what);
+    for (size_t k = 0; k < count; k++) {
+        expect(out[k] == byte_of_key(keys[k], q.texts[1], q.texts[2]), "another answer than alone", what);
+        expect(!wanted || out[k] == wanted[k], "another answer", what);
+    }
+    free(out);
+    try_sizes(match_keys, &q, NEVGRASI_DONE, NULL);
+    let_go(&q);
+}
+
+#define KEYS(what, name, lines, wanted, ...) \
+    do { \
+        const char *listed[] = {__VA_ARGS__}; \
+        bytes keys[sizeof listed / sizeof *listed]; \
+        for (size_t k = 0; k < sizeof listed / sizeof *listed; k++) \
+            keys[k] = (bytes){(const uint8_t *)listed[k], strlen(listed[k])}; \
+        try_keys(what, keys, sizeof listed / sizeof *listed, name, lines, (const uint8_t *)wanted); \
+    } while (0)
 
 /* The rows of crates/nevgrasi_c/calls.json, of which `.ci/c-library` makes calls of the functions above. */
 static void try_rows(void) {
@@ -508,6 +554,35 @@ static uint64_t answer_on(bytes text, uint8_t *out) {
     return with_outcome(sum, &o, out);
 }
 
+/* Keys of which none is there, keys that are too deep, memory that is refused, and bytes that are no keys. */
+static void try_batches(void) {
+    char *deep = nested(NEVGRASI_MOST_OPEN, "not(", ")"), *shallow = nested(100, "all(", ", a)");
+    const uint8_t wanted[] = {2 * NEVGRASI_TOO_DEEP, 1, 0};
+    try_keys("no keys", NULL, 0, "x", "a", wanted);
+    KEYS("deep keys", "", "a", wanted, deep, shallow, "cfg(b)");
+    bytes keys[] = {{(const uint8_t *)shallow, strlen(shallow)}, {(const uint8_t *)"cfg(a b)", 8}};
+    question q = {"refused memory", {counted_texts(keys, 2), {0}, copied("a\nb", 3)}};
+    refuse_each(match_keys, &q, NEVGRASI_DONE);
+    for (size_t shorter = 1; shorter < q.texts[0].size; shorter++) {
+        nevgrasi_outcome o;
+        question front = {"the front of keys", {copied(q.texts[0].at, shorter), {0}, copied("a", 1)}};
+        uint32_t code = match_keys(&front, NULL, 0, &o), is_one = shorter == 8 + keys[0].size;
+        expect(code == (is_one ? NEVGRASI_DONE : NEVGRASI_NOT_FLAT), front.name, "another code");
+        expect(o.argument == 0 && o.needed == is_one, front.name, "another outcome");
+        let_go(&front);
+    }
+    memset((void *)q.texts[0].at, 0xFF, 8);
+    try_call(match_keys, q, NEVGRASI_NOT_FLAT, "");
+    free(shallow);
+    free(deep);
+}
+
+/* All texts of rows as keys, at once. */
+static void try_all_keys(void) {
+    const char *lines = "unix\ntarget_os=\"linux\"\na\n";
+    try_keys("the texts of rows", texts, text_count, "x86_64-unknown-linux-gnu", lines, NULL);
+}
+
 /* Each thread begins at another text, so that at any time they are at others. */
 static void *ask_all(void *which) {
     uint8_t *out = calloc(ROOM, 1);
@@ -540,6 +615,7 @@ static void try_threads(const char *file) {
     uint8_t *out = calloc(ROOM, 1);
     for (size_t k = 0; k < text_count; k++) answers[k] = answer_on(texts[k], out);
     free(out);
+    try_all_keys();
     pthread_t threads[THREADS];
     size_t places[THREADS];
     for (size_t k = 0; k < THREADS; k++) {
@@ -556,6 +632,7 @@ int main(int count, char **words) {
     try_rows();
     try_deep_graphs();
     try_runs();
+    try_batches();
     try_call(flat_matches, (question){"flat_matches", {flat_of(KEY), copied("x", 1)}}, NEVGRASI_DONE, "");
     try_call(flat_print, (question){"flat_print", {flat_of(KEY)}}, NEVGRASI_DONE,
              "cfg(all(unix, not(target_os = \"macos\")))");

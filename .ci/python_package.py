@@ -1,6 +1,6 @@
 """Tries the Python package `nevgrasi`, which has to be on the path: that its values are compared, sorted, hashed,
 copied and pickled, that other types raise `TypeError`, what a condition consists of, what is true on the targets of
-rustc, that a graph is computed once, and the lines of Python in docs/OTHER-LANGUAGES.md.
+rustc, that many keys are one call and a graph is computed once, and the lines of Python in docs/OTHER-LANGUAGES.md.
 
 The values, errors and parts of conditions are in crates/nevgrasi_c/python.json. The facts of targets are what `rustc
 --print cfg` prints, where rustc 1.95.0 is, and `conditions.py` finds the keys that are true for these lines. The last
@@ -19,7 +19,7 @@ from conditions import inside_of_key, is_true, read
 from crates import ROOT
 from graph_model import dependency, document_of, graphs
 from installed import PAGE, blocks
-from nevgrasi import Condition, Fault, Facts, Key, facts_of, keys_at, known_targets
+from nevgrasi import Condition, Fault, Facts, Key, facts_of, keys_at, known_targets, match_keys
 
 FLAT = b"unix" + bytes([4]) + bytes(16)
 
@@ -115,6 +115,7 @@ def try_target(target):
     wanted = [key for key, it in inside.items() if (key == target if it is None else is_true(read(it), lines))]
     check(f"keys at {target}", keys_at(KEYS, target), wanted)
     check(f"keys at {target}, read", keys_at(map(Key, KEYS), Facts(lines, target)), [*map(Key, wanted)])
+    check(f"answers at {target}", match_keys([*KEYS, "cfg(a b)"], target), [*(key in wanted for key in KEYS), None])
 
 
 class Counting:
@@ -128,14 +129,27 @@ class Counting:
         return getattr(self.library, name)
 
 
-def counted(*given):
-    """A graph, and how many calls it took."""
+def counted(*given, asked=nevgrasi.graph):
+    """A graph, or what else is asked, and how many calls it took."""
     library = nevgrasi._library.LIBRARY
     nevgrasi._library.LIBRARY = counting = Counting(library)
     try:
-        return nevgrasi.graph(*given), counting.calls
+        return asked(*given), counting.calls
     finally:
         nevgrasi._library.LIBRARY = library
+
+
+def try_batches():
+    """Many keys are one call, whichever of them are rejected."""
+    deep = f"cfg({'not(' * 10_000}a{')' * 10_000})"
+    facts, given = Facts(["unix"], "x"), [*KEYS, "cfg(a b)", Key("cfg(unix)"), "x", "cfg(é", "cfg(\0)", deep] * 100
+    rejected = ("cfg(a b)", "cfg(é", "cfg(\0)", deep)
+    wanted = [None if it in rejected else Key(str(it)).matches("x", ["unix"]) for it in given]
+    check("many keys", counted(given, facts, asked=match_keys), (wanted, 1))
+    found = [it for it in given if it not in rejected]
+    kept = [it for it, is_so in zip(given, wanted) if is_so]
+    check("many keys at a target", counted(found, facts, asked=keys_at), (kept, 1))
+    check("no keys", (match_keys([], facts), keys_at((), "avr-none")), ([], []))
 
 
 def unix_graph(count):
@@ -173,6 +187,7 @@ def main():
     try_errors()
     try_conditions()
     try_facts()
+    try_batches()
     try_graphs()
     try_page()
     if shutil.which("rustc") and ended(["rustc", "--version"]).output.startswith(RELEASE):

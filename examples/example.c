@@ -1,4 +1,4 @@
-/* Says of a key what it spells, at how many known targets it holds, and whether it implies cfg(unix). */
+/* Prints the canonical form of a key, on how many known targets it is true, and whether it implies cfg(unix). */
 #include <nevgrasi.h>
 #include <stdio.h>
 #include <string.h>

@@ -99,6 +99,15 @@ uint32_t nevgrasi_fault(const uint8_t *key, size_t key_length, uint8_t *out, siz
 uint32_t nevgrasi_matches(const uint8_t *key, size_t key_length, const uint8_t *name, size_t name_length,
     const uint8_t *lines, size_t lines_length, uint8_t *out, size_t out_length, nevgrasi_outcome *outcome);
 
+/* Writes a byte for each of many keys: whether it is true on the target with this name and the facts in these lines,
+   which are as `rustc --print cfg` prints them. Each key has its length before it, in 8 bytes, low byte first. The
+   byte is 0 if the key is false, and 1 if it is true. Else it is twice the code that `nevgrasi_matches` returns for
+   the key: NEVGRASI_REFUSED, NEVGRASI_NOT_UTF8, NEVGRASI_TOO_DEEP or NEVGRASI_NO_MEMORY. The call returns
+   NEVGRASI_NOT_FLAT if the keys do not have this form. With NEVGRASI_REFUSED, a line is not a fact, and `argument` is
+   2. */
+uint32_t nevgrasi_match_keys(const uint8_t *keys, size_t keys_length, const uint8_t *name, size_t name_length,
+    const uint8_t *lines, size_t lines_length, uint8_t *out, size_t out_length, nevgrasi_outcome *outcome);
+
 /* Sets `words` to the known targets on which a key is true: bit `k % 64` of word `k / 64` is the target at index
    `k`. */
 uint32_t nevgrasi_targets(const uint8_t *key, size_t key_length, uint64_t words[NEVGRASI_WORDS], uint8_t *out,

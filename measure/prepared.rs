@@ -3,8 +3,9 @@
 //!
 //! `measure/prepared` builds and runs this program. It reads keys from the standard input, one per line. For each
 //! target it prints how many facts it has, and nanoseconds for each key: those of cargo-platform, of flat facts, of
-//! prepared facts, and of prepared facts by the crate nevgrasi, the least of all rounds. With the name of a function as
-//! its argument, it calls this one once.
+//! prepared facts, and of prepared facts by the crate nevgrasi; and of the texts of keys, by a call for each of them,
+//! and by one call for all. Each is the least of all rounds. With the name of a function as its argument, it calls this
+//! one once.
 #[allow(dead_code)]
 mod raw;
 
@@ -45,6 +46,8 @@ struct Work {
     prepared: Vec<u8>,
     conditions: Vec<nevgrasi::Condition>,
     read_facts: nevgrasi::Facts,
+    keys: Vec<String>,
+    lines: String,
 }
 
 #[inline(never)]
@@ -85,8 +88,41 @@ fn by_nevgrasi(work: &Work) -> usize {
     work.conditions.iter().filter(|it| it.matches(&work.read_facts).expect("an answer")).count()
 }
 
-const CALLS: [(&str, fn(&Work) -> usize); 4] =
-    [("by_crate", by_crate), ("by_flat", by_flat), ("by_prepared", by_prepared), ("by_nevgrasi", by_nevgrasi)];
+#[inline(never)]
+fn by_each(work: &Work) -> usize {
+    let (mut outcome, lines) = (Outcome::default(), &work.lines);
+    let mut out = [0; 512];
+    let is_true = |it: &&String| unsafe {
+        raw::nevgrasi_matches(
+            it.as_ptr(),
+            it.len(),
+            b"x".as_ptr(),
+            1,
+            lines.as_ptr(),
+            lines.len(),
+            out.as_mut_ptr(),
+            out.len(),
+            &mut outcome,
+        );
+        outcome.holds
+    };
+    work.keys.iter().filter(is_true).count()
+}
+
+#[inline(never)]
+fn by_batch(work: &Work) -> usize {
+    let answers = nevgrasi::match_keys(&work.keys, &work.read_facts).expect("answers");
+    answers.iter().filter(|it| **it == Ok(true)).count()
+}
+
+const CALLS: [(&str, fn(&Work) -> usize); 6] = [
+    ("by_crate", by_crate),
+    ("by_flat", by_flat),
+    ("by_prepared", by_prepared),
+    ("by_nevgrasi", by_nevgrasi),
+    ("by_each", by_each),
+    ("by_batch", by_batch),
+];
 
 fn work_of(keys: &[String], lines: &str) -> Work {
     let facts: Vec<Cfg> = lines.lines().map(|it| Cfg::from_str(it).expect("a fact")).collect();
@@ -103,6 +139,8 @@ fn work_of(keys: &[String], lines: &str) -> Work {
         facts,
         conditions: keys.iter().map(|it| condition(it).expect("a key")).collect(),
         read_facts: nevgrasi::Facts::new("x", lines).expect("facts"),
+        keys: keys.to_vec(),
+        lines: lines.to_string(),
     }
 }
 
@@ -126,7 +164,7 @@ fn main() {
             black_box(call(&work));
             return;
         }
-        let mut least = [f64::MAX; 4];
+        let mut least = [f64::MAX; CALLS.len()];
         for _ in 0..ROUNDS {
             for (place, (_, call)) in CALLS.iter().enumerate() {
                 let start = Instant::now();

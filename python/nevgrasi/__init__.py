@@ -30,7 +30,8 @@ from . import _library
 from ._library import Outcome, call, of_bytes, of_text, wrong_type
 
 __all__ = ["Answer", "Condition", "Example", "Facts", "Fault", "Key", "Package", "Run", "TooDeep", "Undecided",
-           "UnknownTarget", "facts_of", "graph", "keys_at", "known_targets", "run", "version"]  # fmt: skip
+           "UnknownTarget", "facts_of", "graph", "keys_at", "known_targets", "match_keys", "run",
+           "version"]  # fmt: skip
 
 # How many case splits a comparison may make before it is undecided.
 BUDGET = 10_000
@@ -795,16 +796,51 @@ def facts_of(name: str) -> Facts:
 
 _KeyOrText = typing.TypeVar("_KeyOrText", bound=typing.Union[Key, str])
 
+# The byte of a key for which an allocation failed: twice the code of its call.
+_NO_MEMORY = 2 * _library.NO_MEMORY
+
+
+def match_keys(keys: typing.Iterable[Key | str], target: Facts | str) -> list[bool | None]:
+    """Returns for each of these keys whether it is true on a target, or None if it is rejected. This is one call.
+
+    The target is a known target, by its name, or one with these facts. A text is rejected if it is no key, or has more
+    parentheses open at once than the library accepts. `Key` raises the error of such a text. Raises `UnknownTarget`.
+
+    >>> match_keys(["cfg(unix)", "cfg(windows)", "cfg(unix"], "x86_64-unknown-linux-gnu")
+    [True, False, None]
+    """
+    return _match_texts([_text_of(key) for key in _listed(keys)], target)
+
 
 def keys_at(keys: typing.Iterable[_KeyOrText], target: Facts | str) -> list[_KeyOrText]:
     """Returns those of these keys that are true on a target: a known target, by its name, or one with these facts.
 
-    This is a loop in Python over `Condition.matches`, which makes two calls for each key. The facts are parsed once.
-    Raises `Fault` if a text is no key, `UnknownTarget`, and `TooDeep`.
+    This is one call, as in `match_keys`. Raises `Fault` if a text is no key, `UnknownTarget`, and `TooDeep`.
 
     >>> keys_at(["cfg(unix)", "cfg(windows)", "x86_64-unknown-linux-gnu"], "x86_64-unknown-linux-gnu")
     ['cfg(unix)', 'x86_64-unknown-linux-gnu']
     """
+    given = _listed(keys)
+    texts = [_text_of(key) for key in given]
+    answers = _match_texts(texts, target)
+    if None in answers:
+        Key(texts[answers.index(None)])  # which raises what is wrong
+    return [key for key, is_true in zip(given, answers) if is_true]
+
+
+def _listed(keys: typing.Iterable[_KeyOrText]) -> list[_KeyOrText]:
+    """Returns the keys as a list. Raises `TypeError` if they are one text."""
+    if isinstance(keys, (str, bytes)):
+        raise wrong_type("the keys", "a list of keys", keys)
+    return list(keys)
+
+
+def _match_texts(texts: list[str], target: Facts | str) -> list[bool | None]:
+    """Returns for each text whether it is true on a target, or None if it is rejected."""
     facts = target if isinstance(target, Facts) else facts_of(target)
-    texts = ((key, _text_of(key)) for key in keys)
-    return [key for key, text in texts if Condition(text).matches(facts)]
+    given = b"".join(len(text).to_bytes(8, "little") + text for text in map(str.encode, texts))
+    of_target = [*of_text(facts.name), *of_text(str(facts))]
+    answers = _check(*call("nevgrasi_match_keys", *of_bytes(given), *of_target, room=len(texts)))
+    if _NO_MEMORY in answers:
+        raise MemoryError("an allocation failed")
+    return [bool(byte) if byte < 2 else None for byte in answers]

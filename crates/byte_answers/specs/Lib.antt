@@ -9,3 +9,4 @@ pub mod Comparisons
 pub mod Laws
 pub mod Prepared
 pub mod Truths
+pub mod Batches

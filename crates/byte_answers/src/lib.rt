@@ -4,6 +4,7 @@
 //! length of its own to the beginning of a buffer, if it fits. Calls leave nothing to be released.
 #![tactic(auto)]
 
+mod batches;
 mod counted;
 mod depth;
 mod fact_lines;
@@ -22,6 +23,7 @@ mod trees;
 mod truths;
 mod unflat;
 
+pub use batches::match_keys;
 pub use depth::{MOST_FLAT_BYTES, MOST_OPEN, is_too_deep};
 pub use keys::{canonical, fault, read_key};
 pub use known::{facts, target_name, targets};

@@ -20,7 +20,7 @@ use std::alloc::Global;
 use std::ops::Range;
 
 /// The index of the lines of facts among the texts of `matches`.
-const LINES: u32 = 2;
+pub(crate) const LINES: u32 = 2;
 
 /// Returns the span of an error in lines of facts, or the empty span if it has none.
 fn span_in_lines(error: &FactsError, lines: &str) -> Range<usize>

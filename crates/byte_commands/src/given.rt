@@ -1,6 +1,8 @@
 //! The arguments and the files that a caller hands over.
 
-ghost use Rattle.std.specs.Prelude.{◌≤◌};
+ghost use Rattle.std.specs.Prelude.{◌≡◌, ◌≤◌, ◌++◌, ◌∷◌, [], IfOk, IfSome, OnOk, map, string_bytes};
+ghost use Rattle.std.specs.Prelude.{bytes_eq, if◌then◌else◌};
+ghost use Rattle.byte_commands.specs.Given.{AreArguments, AreFiles, IsEntry, HasNoNul, contents_of, entry_bytes, entry_of};
 
 use memory_files::GivenFile;
 use std::alloc::{AllocError, Global};
@@ -57,56 +59,86 @@ impl From<AllocError> for Misread {
     }
 }
 
-/// Returns the name of the program, and the arguments in a text, with a NUL between them. Without a text, there are no
-/// arguments.
-fn arguments_of(alloc: Global, text: Option<&str>) -> Result<Vec<String>, AllocError> {
-    let mut arguments = Vec::new(alloc);
-    arguments.push(String::from_str(alloc, PROGRAM)?)?;
-    if let Some(text) = text {
-        for argument in text.split('\0') {
-            arguments.push(String::from_str(alloc, argument)?)?;
+/// Returns the bytes before the first NUL, and those after it, if there is one.
+fn divided(bytes: &[u8]) -> Option<(&[u8], &[u8])>
+    ensures { IfSome result (λ p. (bytes.now ≡ p.0.now ++ 0 ∷ p.1.now) × HasNoNul p.0.now) }
+{
+    let mut at = 0;
+    let mut left = bytes;
+    'bytes: while let Some((first, others)) = left.split_first() {
+        if *first == 0 {
+            let (before, _rest) = bytes.split_at_checked(at)?;
+            return Some((before, others));
         }
+        at += 1;
+        left = others;
+    }
+    None
+}
+
+/// Appends a text to the arguments.
+fn push_text(alloc: Global, arguments: &mut Vec<String>, text: &str) -> Result<(), AllocError>
+    ensures { OnOk result
+        (map string_bytes arguments.new.items ≡ map string_bytes arguments.old.items ++ text.now ∷ []) }
+{
+    arguments.push(String::from_str(alloc, text)?)?;
+    Ok(())
+}
+
+/// Returns the arguments in these bytes, each of which ends with a NUL, behind the name of the program.
+fn arguments_in(alloc: Global, bytes: &[u8]) -> Result<Vec<String>, Misread>
+    ensures { IfOk result (λ arguments. AreArguments bytes.now (map string_bytes arguments.items)) }
+{
+    let mut arguments = Vec::new(alloc);
+    push_text(alloc, &mut arguments, PROGRAM)?;
+    let mut left = bytes;
+    'words: while !left.is_empty() {
+        let Some((word, others)) = divided(left) else {
+            return Err(Misread::Form(Part::Arguments));
+        };
+        let Ok(word) = str::from_utf8(word) else {
+            return Err(Misread::NotUtf8(Part::Arguments));
+        };
+        push_text(alloc, &mut arguments, word)?;
+        left = others;
     }
     Ok(arguments)
 }
 
-/// Returns the arguments in a text, each of which ends with a NUL, behind the name of the program.
-fn arguments_in(alloc: Global, bytes: &[u8]) -> Result<Vec<String>, Misread> {
-    let Ok(text) = str::from_utf8(bytes) else {
-        return Err(Misread::NotUtf8(Part::Arguments));
-    };
-    if text.is_empty() {
-        return Ok(arguments_of(alloc, None)?);
-    }
-    match text.strip_suffix('\0') {
-        Some(text) => Ok(arguments_of(alloc, Some(text))?),
-        None => Err(Misread::Form(Part::Arguments)),
-    }
+/// A file that is handed over, and the bytes after it.
+#[derive(Clone, Copy, Drop)]
+struct First<'a> {
+    name: &'a [u8],
+    digits: &'a [u8],
+    content: &'a [u8],
+    after: &'a [u8],
 }
-
-/// Returns the bytes before the first NUL, and those after it, if there is one.
-fn divided(bytes: &[u8]) -> Option<(&[u8], &[u8])> {
-    let place = bytes.iter().position(|byte| *byte == 0)?;
-    let (before, rest) = bytes.split_at_checked(place)?;
-    let (_nul, after) = rest.split_first()?;
-    Some((before, after))
-}
-
-/// The name, the bytes of a file, and the bytes after them.
-type Entry<'a> = (&'a [u8], &'a [u8], &'a [u8]);
 
 /// Returns the first file in these bytes: its name, a NUL, its length in decimal digits, a NUL, and its bytes.
-fn first_in(bytes: &[u8]) -> Option<Entry<'_>> {
+fn first_in(bytes: &[u8]) -> Option<First<'_>>
+    ensures { IfSome result (λ f. (bytes.now ≡ entry_bytes (entry_of f) ++ f.after.now) × IsEntry (entry_of f)) }
+{
     let (name, rest) = divided(bytes)?;
     let (digits, rest) = divided(rest)?;
     let length = str::from_utf8(digits).ok()?.parse::<usize>().ok()?;
-    let (file, after) = rest.split_at_checked(length)?;
-    Some((name, file, after))
+    let (content, after) = rest.split_at_checked(length)?;
+    Some(First {
+        name,
+        digits,
+        content,
+        after,
+    })
 }
 
 impl<'a> Given<'a> {
     /// Adds a file, or sets standard input.
-    fn add(&mut self, alloc: Global, name: &str, bytes: &'a [u8]) -> Result<(), AllocError> {
+    fn add(&mut self, alloc: Global, name: &str, bytes: &'a [u8]) -> Result<(), AllocError>
+        ensures arguments { OnOk result (self.new.arguments ≡ self.old.arguments) }
+        ensures files { OnOk result (contents_of self.new.files.items
+            ≡ contents_of self.old.files.items ++ (if bytes_eq name.now INPUT.now then [] else bytes.now ∷ [])) }
+        ensures input { OnOk result (self.new.input.now
+            ≡ (if bytes_eq name.now INPUT.now then bytes.now else self.old.input.now)) }
+    {
         if name == INPUT {
             self.input = bytes;
             return Ok(());
@@ -116,31 +148,32 @@ impl<'a> Given<'a> {
     }
 
     /// Adds the files in these bytes.
-    fn add_all(&mut self, alloc: Global, bytes: &'a [u8]) -> Result<(), Misread> {
-        let mut rest = bytes;
-        for _ in 0..bytes.len() {
-            if rest.is_empty() {
-                return Ok(());
-            }
-            let Some((name, file, after)) = first_in(rest) else {
+    fn add_all(&mut self, alloc: Global, bytes: &'a [u8]) -> Result<(), Misread>
+        requires none { self.old.files.items ≡ [] }
+        requires no_input { self.old.input.now ≡ [] }
+        ensures arguments { OnOk result (self.new.arguments ≡ self.old.arguments) }
+        ensures files { OnOk result (AreFiles bytes.now (contents_of self.new.files.items) self.new.input.now) }
+    {
+        let mut left = bytes;
+        'files: while !left.is_empty() {
+            let Some(first) = first_in(left) else {
                 return Err(Misread::Form(Part::Files));
             };
-            let Ok(name) = str::from_utf8(name) else {
+            let Ok(name) = str::from_utf8(first.name) else {
                 return Err(Misread::NotUtf8(Part::Files));
             };
-            self.add(alloc, name, file)?;
-            rest = after;
+            self.add(alloc, name, first.content)?;
+            left = first.after;
         }
         Ok(())
     }
 }
 
 /// Returns what the arguments of a call hand over.
-pub fn given_by<'a>(
-    alloc: Global,
-    arguments: &[u8],
-    files: &'a [u8],
-) -> Result<Given<'a>, Misread> {
+pub fn given_by<'a>(alloc: Global, arguments: &[u8], files: &'a [u8]) -> Result<Given<'a>, Misread>
+    ensures arguments { IfOk result (λ given. AreArguments arguments.now (map string_bytes given.arguments.items)) }
+    ensures files { IfOk result (λ given. AreFiles files.now (contents_of given.files.items) given.input.now) }
+{
     let mut given = Given {
         arguments: arguments_in(alloc, arguments)?,
         files: Vec::new(alloc),

@@ -2,14 +2,17 @@
 //! Rattle. No file is read or written: the caller hands files over.
 #![tactic(auto)]
 
-ghost use Rattle.std.specs.Prelude.{◌≡◌, ◌≢◌, ◌≤◌, ℕ, List, ◌++◌, IsTrue, ◌||◌, ◌==◌, IfOk, string_bytes};
+ghost use Rattle.std.specs.Prelude.{◌≡◌, ◌≢◌, ◌≤◌, ℕ, List, ◌++◌, IsTrue, ◌||◌, ◌==◌, IfOk, Ok, map, string_bytes};
 ghost use Rattle.byte_answers.specs.Outcomes.{HasNoAnswer, HasNoSpan, IsSilent, IsWritten};
-ghost use Rattle.byte_commands.specs.Answers.{IsAnswer};
+ghost use Rattle.key_answers.specs.Printing.{code_of};
+ghost use Rattle.byte_commands.specs.Answers.{IsAnswer, IsAnswerOf};
+ghost use Rattle.byte_commands.specs.Given.{AreArguments, AreFiles, contents_of};
 
 mod given;
 
 use byte_answers::{DONE, NO_MEMORY, NOT_UTF8, Outcome, REFUSED, write};
-use given::{Given, Misread, Part, given_by};
+pub use given::Given;
+use given::{Misread, Part, given_by};
 use key_answers::answer::{Answer, Status};
 use memory_files::MemoryRuntime;
 use std::alloc::{AllocError, Global};
@@ -35,7 +38,7 @@ fn answer_on(alloc: Global, build: &str, given: &Given<'_>) -> Result<Answer, Al
 fn done(text: &str, start: usize, status: Status, out: &mut [u8]) -> Outcome
     ensures written { IsWritten text.now result.needed out.old out.new }
     ensures code { result.code ≡ DONE }
-    ensures status { result.argument ≤ 2 }
+    ensures status { result.argument ≡ code_of status }
     ensures start { result.start ≡ start }
     ensures end { result.end ≡ result.needed }
     ensures holds { HasNoAnswer result }
@@ -54,8 +57,7 @@ fn done(text: &str, start: usize, status: Status, out: &mut [u8]) -> Outcome
 
 /// Writes the output and the errors of an answer, one after the other.
 fn written(answer: Answer, out: &mut [u8]) -> Outcome
-    ensures done { result.code ≡ DONE → IsAnswer result out.old out.new }
-    ensures status { result.code ≡ DONE → result.argument ≤ 2 }
+    ensures done { result.code ≡ DONE → IsAnswerOf answer result out.old out.new }
     ensures silent { result.code ≢ DONE → IsSilent result out.old out.new }
     ensures argument { result.code ≢ DONE → result.argument ≡ 0 }
     ensures holds { HasNoAnswer result }
@@ -90,6 +92,50 @@ fn reason_for(part: Part) -> &'static str {
     }
 }
 
+/// Runs a command on what is handed over, and writes its output, and its errors after it, as `run` does for the
+/// commands of `manifest_check`.
+pub fn run_by<'a, F: FnOnce(Given<'a>) -> Result<Answer, AllocError>>(
+    alloc: Global,
+    command: F,
+    arguments: &[u8],
+    files: &'a [u8],
+    out: &mut [u8],
+) -> Outcome
+    // The command may be called with everything that can be handed over.
+    requires { F.IsAlwaysCallable command }
+    // With `DONE`, exactly the output and the errors of an answer that the command returned are written, if the buffer
+    // is long enough; `argument` is the exit status of this answer, and the errors are from `start` to `end`. The
+    // command was called with the arguments, the contents of the files and the standard input in the bytes.
+    ensures done { result.code ≡ DONE → (given : Given) × ((answer : Answer)
+        × (AreArguments arguments.now (map string_bytes given.arguments.items)
+        × AreFiles files.now (contents_of given.files.items) given.input.now
+        × F.post command given (Ok answer) × IsAnswerOf answer result out.old out.new)) }
+    // With `REFUSED`, a reason is written if the buffer is long enough.
+    ensures refused { result.code ≡ REFUSED → (text : List ℕ) × IsWritten text result.needed out.old out.new }
+    // With other codes, nothing is written.
+    ensures silent { result.code ≢ DONE → result.code ≢ REFUSED → IsSilent result out.old out.new }
+    // With other codes than `DONE`, `argument` is 0 or 1.
+    ensures argument { result.code ≢ DONE → result.argument ≤ 1 }
+    // `holds` and `is_named` are false.
+    ensures holds { HasNoAnswer result }
+    // With other codes than `DONE`, `start` and `end` are 0.
+    ensures span { result.code ≢ DONE → HasNoSpan result }
+    // The code is one of these, or `NO_MEMORY`.
+    ensures codes { IsTrue (result.code == DONE || result.code == REFUSED || result.code == NOT_UTF8
+        || result.code == NO_MEMORY) }
+{
+    let given = match given_by(alloc, arguments, files) {
+        Ok(given) => given,
+        Err(Misread::Form(part)) => return Outcome::refused(part.index(), reason_for(part), out),
+        Err(Misread::NotUtf8(part)) => return Outcome::ended(NOT_UTF8, part.index()),
+        Err(Misread::Memory) => return Outcome::ended(NO_MEMORY, 0),
+    };
+    match command(given) {
+        Ok(answer) => written(answer, out),
+        Err(_) => Outcome::ended(NO_MEMORY, 0),
+    }
+}
+
 /// Runs a command of `manifest_check` on files that are handed over, and writes its output, and its errors after it.
 /// With `DONE`, `argument` is the exit status, and the errors are from `start` to `end` of what is written.
 ///
@@ -119,14 +165,11 @@ pub fn run(alloc: Global, build: &str, arguments: &[u8], files: &[u8], out: &mut
     ensures codes { IsTrue (result.code == DONE || result.code == REFUSED || result.code == NOT_UTF8
         || result.code == NO_MEMORY) }
 {
-    let given = match given_by(alloc, arguments, files) {
-        Ok(given) => given,
-        Err(Misread::Form(part)) => return Outcome::refused(part.index(), reason_for(part), out),
-        Err(Misread::NotUtf8(part)) => return Outcome::ended(NOT_UTF8, part.index()),
-        Err(Misread::Memory) => return Outcome::ended(NO_MEMORY, 0),
-    };
-    match answer_on(alloc, build, &given) {
-        Ok(answer) => written(answer, out),
-        Err(_) => Outcome::ended(NO_MEMORY, 0),
-    }
+    run_by(
+        alloc,
+        |given| answer_on(alloc, build, &given),
+        arguments,
+        files,
+        out,
+    )
 }

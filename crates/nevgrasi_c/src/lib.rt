@@ -12,6 +12,7 @@ ghost use Rattle.cargo_platform.specs.Facts.{FactSet};
 ghost use Rattle.known_targets.specs.Table.{target_name};
 ghost use Rattle.byte_answers.specs.Answers.{AreFactsOf, AreTargets, IsCanonical, IsFlatMatch, IsFlatOf, IsMatch};
 ghost use Rattle.byte_answers.specs.Answers.{IsPrint};
+ghost use Rattle.byte_answers.specs.Batches.{AreAnswersAt, AreCounted, ends_batch_call};
 ghost use Rattle.byte_answers.specs.Comparisons.{AreRelated, AreUndecided, IsPossibleKey, IsUndecided};
 ghost use Rattle.byte_answers.specs.Depths.{IsReadable, IsTooDeep};
 ghost use Rattle.byte_answers.specs.Flat.{IsFlatForm, AreFlatFacts};
@@ -141,6 +142,39 @@ pub extern "C" fn nevgrasi_matches(
     ensures outcome { outcome.new.code ≡ result }
 {
     *outcome = byte_answers::matches(alloc, key, name, lines, out);
+    outcome.code
+}
+
+/// Writes a byte for each of many keys: whether it is true on the target with this name and the facts in these lines,
+/// which are as `rustc --print cfg` prints them. Each key has its length before it, in 8 bytes, low byte first. The byte
+/// is 0 if the key is false, and 1 if it is true. Else it is twice the code that `nevgrasi_matches` returns for the key:
+/// `REFUSED`, `NOT_UTF8`, `TOO_DEEP` or `NO_MEMORY`. The call returns `NOT_FLAT` if the keys do not have this form. With
+/// `REFUSED`, a line is not a fact, and `argument` is 2.
+#[unsafe(no_mangle)]
+pub extern "C" fn nevgrasi_match_keys(
+    alloc: Global,
+    keys: &[u8],
+    name: &[u8],
+    lines: &[u8],
+    out: &mut [u8],
+    outcome: &mut Outcome,
+) -> u32
+    ensures done { result ≡ DONE → AreAnswersAt keys.now name.now lines.now outcome.new.needed out.old out.new }
+    ensures not_counted { result ≡ NOT_FLAT → AreCounted keys.now → ⊥ }
+    ensures not_counted_keys { result ≡ NOT_FLAT → outcome.new.argument ≡ 0 }
+    ensures refused { result ≡ REFUSED → IsRefusedLine lines.now outcome.new out.old out.new }
+    ensures refused_lines { result ≡ REFUSED → outcome.new.argument ≡ 2 }
+    ensures not_utf8 { result ≡ NOT_UTF8 → IsTrue (outcome.new.argument == 1 || outcome.new.argument == 2) }
+    ensures not_utf8_name { result ≡ NOT_UTF8 → outcome.new.argument ≡ 1 → IsUtf8 name.now → ⊥ }
+    ensures not_utf8_lines { result ≡ NOT_UTF8 → outcome.new.argument ≡ 2 → IsUtf8 lines.now → ⊥ }
+    ensures utf8 { result ≡ DONE → IsUtf8 name.now × IsUtf8 lines.now }
+    ensures silent { result ≢ DONE → result ≢ REFUSED → IsSilent outcome.new out.old out.new }
+    ensures holds { HasNoAnswer outcome.new }
+    ensures span { result ≢ REFUSED → HasNoSpan outcome.new }
+    ensures codes { IsTrue (ends_batch_call result) }
+    ensures outcome { outcome.new.code ≡ result }
+{
+    *outcome = byte_answers::match_keys(alloc, keys, name, lines, out);
     outcome.code
 }
 

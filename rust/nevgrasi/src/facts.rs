@@ -1,9 +1,9 @@
-//! Conditions that are parsed once, and facts that are prepared once, to match them often.
+//! Conditions that are parsed once, and facts that are prepared once, to match them often; and many keys at once.
 
-use crate::call::{check_code, check_interface, made, text_of};
-use crate::error::Error;
+use crate::call::{check_code, check_interface, made, made_in, text_of};
+use crate::error::{Error, ErrorKind};
 use crate::raw::{self, Outcome};
-use crate::Key;
+use crate::{facts_of, Key};
 
 /// The `cfg` facts of a target, and its name. They are prepared once, to match many conditions.
 ///
@@ -18,6 +18,7 @@ use crate::Key;
 #[derive(Clone, Debug)]
 pub struct Facts {
     name: String,
+    lines: String,
     prepared: Vec<u8>,
 }
 
@@ -44,7 +45,22 @@ impl Facts {
             return Err(Error::of_facts(text_of(out)?, outcome.start..outcome.end));
         }
         check_code(outcome.code)?;
-        Ok(Facts { name: name.to_string(), prepared: out })
+        Ok(Facts { name: name.to_string(), lines: lines.to_string(), prepared: out })
+    }
+
+    /// Reads the facts of the known target of this name.
+    ///
+    /// ```
+    /// let facts = nevgrasi::Facts::of_target("x86_64-unknown-linux-gnu")?;
+    /// assert!(nevgrasi::Key::new("cfg(unix)")?.condition()?.matches(&facts)?);
+    /// # Ok::<(), nevgrasi::Error>(())
+    /// ```
+    ///
+    /// # Errors
+    ///
+    /// [`ErrorKind`](crate::ErrorKind)`::UnknownTarget`, `OutOfMemory` and `OtherInterface`.
+    pub fn of_target(name: &str) -> Result<Facts, Error> {
+        Facts::new(name, &facts_of(name)?.join("\n"))
     }
 
     /// Returns the name of the target.
@@ -115,5 +131,60 @@ impl Condition {
         };
         check_code(outcome.code)?;
         Ok(outcome.holds)
+    }
+}
+
+/// Returns for each of these keys whether it is true for these facts, or the kind of its error. This is one call.
+///
+/// [`Key::new`] returns the whole error of a key that is rejected.
+///
+/// ```
+/// use nevgrasi::{match_keys, ErrorKind, Facts};
+///
+/// let linux = Facts::of_target("x86_64-unknown-linux-gnu")?;
+/// let answers = match_keys(&["cfg(unix)", "cfg(windows)", "cfg(unix"], &linux)?;
+/// assert_eq!(answers, [Ok(true), Ok(false), Err(ErrorKind::InvalidKey)]);
+/// # Ok::<(), nevgrasi::Error>(())
+/// ```
+///
+/// # Errors
+///
+/// [`ErrorKind::OutOfMemory`] and [`ErrorKind::OtherInterface`]. The kind of a key is [`ErrorKind::InvalidKey`],
+/// [`ErrorKind::TooDeep`] or [`ErrorKind::OutOfMemory`].
+pub fn match_keys<K: AsRef<str>>(keys: &[K], facts: &Facts) -> Result<Vec<Result<bool, ErrorKind>>, Error> {
+    let mut given = Vec::new();
+    for key in keys {
+        let key = key.as_ref();
+        given.extend_from_slice(&(key.len() as u64).to_le_bytes());
+        given.extend_from_slice(key.as_bytes());
+    }
+    let (name, lines) = (&facts.name, &facts.lines);
+    // SAFETY: as in `Key::new`.
+    let (outcome, answers) = made_in(keys.len(), |out, room, outcome| unsafe {
+        raw::nevgrasi_match_keys(
+            given.as_ptr(),
+            given.len(),
+            name.as_ptr(),
+            name.len(),
+            lines.as_ptr(),
+            lines.len(),
+            out,
+            room,
+            outcome,
+        )
+    })?;
+    check_code(outcome.code)?;
+    Ok(answers.into_iter().map(answer_of).collect())
+}
+
+/// Returns the answer that a byte is: 0 or 1, or twice the code of the call on a key.
+fn answer_of(byte: u8) -> Result<bool, ErrorKind> {
+    match u32::from(byte) {
+        0 => Ok(false),
+        1 => Ok(true),
+        byte if byte == 2 * raw::REFUSED => Err(ErrorKind::InvalidKey),
+        byte if byte == 2 * raw::TOO_DEEP => Err(ErrorKind::TooDeep),
+        byte if byte == 2 * raw::NO_MEMORY => Err(ErrorKind::OutOfMemory),
+        _ => Err(ErrorKind::Unexpected),
     }
 }

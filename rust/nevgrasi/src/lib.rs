@@ -28,7 +28,7 @@ mod raw;
 mod run;
 
 pub use error::{Error, ErrorKind};
-pub use facts::{Condition, Facts};
+pub use facts::{match_keys, Condition, Facts};
 pub use graph::{graph, graph_with, GraphOptions, Kind, Package, Sides, Targets};
 pub use key::{Answer, Example, Key, BUDGET};
 pub use raw::ABI;

@@ -88,6 +88,22 @@ extern "C" {
         out_length: usize,
         outcome: *mut Outcome,
     ) -> u32;
+    /// Writes a byte for each of many keys: whether it is true on the target with this name and the facts in these
+    /// lines, which are as `rustc --print cfg` prints them. Each key has its length before it, in 8 bytes, low byte
+    /// first. The byte is 0 if the key is false, and 1 if it is true. Else it is twice the code that `nevgrasi_matches`
+    /// returns for the key: `REFUSED`, `NOT_UTF8`, `TOO_DEEP` or `NO_MEMORY`. The call returns `NOT_FLAT` if the keys
+    /// do not have this form. With `REFUSED`, a line is not a fact, and `argument` is 2.
+    pub fn nevgrasi_match_keys(
+        keys: *const u8,
+        keys_length: usize,
+        name: *const u8,
+        name_length: usize,
+        lines: *const u8,
+        lines_length: usize,
+        out: *mut u8,
+        out_length: usize,
+        outcome: *mut Outcome,
+    ) -> u32;
     /// Sets `words` to the known targets on which a key is true: bit `k % 64` of word `k / 64` is the target at index
     /// `k`.
     pub fn nevgrasi_targets(

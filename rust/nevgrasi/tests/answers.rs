@@ -1,6 +1,7 @@
 //! Each call once, with answers that the library's rows state too.
 
-use nevgrasi::{facts_of, graph, known_targets, Error, ErrorKind, Key, Kind, Package, Sides, Targets};
+use nevgrasi::{facts_of, graph, known_targets, match_keys};
+use nevgrasi::{Error, ErrorKind, Facts, Key, Kind, Package, Sides, Targets};
 use std::collections::{BTreeSet, HashSet};
 
 fn key(text: &str) -> Key {
@@ -73,6 +74,22 @@ fn targets_are_those_that_rustc_knows() {
     assert_eq!(known.first().map(String::as_str), Some("aarch64-apple-darwin"));
     assert_eq!(key("cfg(all())").targets().expect("targets"), known);
     assert_eq!(key("cfg(any())").targets().expect("targets").len(), 0);
+}
+
+#[test]
+fn many_keys_are_matched_as_each_alone() {
+    let deep = format!("cfg({}a{})", "not(".repeat(10_000), ")".repeat(10_000));
+    let keys = ["cfg(unix)", "cfg(windows)", "cfg(é", "avr-none", &deep, "cfg(a b)", "", "cfg(target_arch = \"avr\")"];
+    let facts = Facts::of_target("avr-none").expect("facts");
+    let alone = |text: &&str| match Key::new(text) {
+        Ok(key) => Ok(key.condition().and_then(|it| it.matches(&facts)).expect("an answer")),
+        Err(error) => Err(error.kind()),
+    };
+    let wanted: Vec<_> = keys.iter().map(alone).collect();
+    assert_eq!(match_keys(&keys, &facts).expect("answers"), wanted);
+    assert_eq!(wanted.iter().filter(|it| **it == Ok(true)).count(), 2);
+    assert_eq!(match_keys::<&str>(&[], &facts), Ok(vec![]));
+    assert_eq!(Facts::of_target("avr").map(|_| ()).unwrap_err().kind(), ErrorKind::UnknownTarget);
 }
 
 #[test]
