@@ -1,16 +1,17 @@
 //! Targets that replace the built-in ones: those of another rustc, from a file, or any with others that are added.
 
-use crate::questions::facts_of_lines;
+use crate::questions::{copied, facts_of_lines};
 use cargo_platform::{Cfg, CfgExpr, Platform};
 use exact_answers::{CanSelect, Known, MustSelect, always_platform, can_hold_platform};
 use input_limits::without_mark;
 use key_answers::answer::Refusal;
 use key_answers::printing::{refused_fact, shown_name};
-use known_targets::{RUSTC_VERSION, having};
+use known_targets::{COUNT, KnownTarget, RUSTC_VERSION, TargetSet, having};
 use manifest_lints_findings::near;
 use manifests::TargetFacts;
 use partial_facts::{decide_platform, residual_platform};
 use std::alloc::{AllocError, Global};
+use std::cell::OnceCell;
 use std::collections::BTreeSet;
 use target_tables::{TableError, TargetRow, TargetTable, read_table};
 
@@ -22,7 +23,12 @@ const MOST: usize = 10_000;
 pub struct GivenTargets {
     /// The path of the file, as it is displayed, or what else messages call the targets.
     pub file: String,
-    table: TargetTable,
+    /// The targets of the file, and those that are added.
+    own: TargetTable,
+    /// True if the known targets come before these.
+    has_known: bool,
+    /// The known targets and the own ones, which are listed when their facts are first needed.
+    listed: OnceCell<TargetTable>,
 }
 
 /// The source of the facts of targets.
@@ -96,6 +102,16 @@ fn refused_count(alloc: Global, file: &str, count: usize) -> Result<Refusal, All
     Ok(Refusal::Unusable(line))
 }
 
+/// Returns the table of the known targets, followed by these rows.
+fn behind_known(alloc: Global, own: &TargetTable) -> Result<TargetTable, AllocError> {
+    let mut table = TargetTable::of_known_targets(alloc)?;
+    for row in own.rows() {
+        let facts = copied(alloc, row.facts())?;
+        let _is_new = table.add(alloc, row.name(), facts)?;
+    }
+    Ok(table)
+}
+
 impl GivenTargets {
     /// Parses the targets in the text of a file: at least one, and at most 10,000.
     pub fn of(alloc: Global, file: String, text: &str) -> Result<GivenTargets, Refusal> {
@@ -105,7 +121,12 @@ impl GivenTargets {
             return Err(refused_count(alloc, file.as_str(), count)?);
         }
         match read_table(alloc, lines.as_str()) {
-            Ok(table) => Ok(GivenTargets { file, table }),
+            Ok(own) => Ok(GivenTargets {
+                file,
+                own,
+                has_known: false,
+                listed: OnceCell::new(),
+            }),
             Err(error) => Err(refused_file(alloc, file.as_str(), &error)?),
         }
     }
@@ -114,7 +135,9 @@ impl GivenTargets {
     pub fn known(alloc: Global) -> Result<GivenTargets, AllocError> {
         Ok(GivenTargets {
             file: format!(in alloc; "rustc {RUSTC_VERSION}")?,
-            table: TargetTable::of_known_targets(alloc)?,
+            own: TargetTable::new(alloc),
+            has_known: true,
+            listed: OnceCell::new(),
         })
     }
 
@@ -133,7 +156,8 @@ impl GivenTargets {
             )?;
             return Err(Refusal::Unusable(line));
         }
-        if self.table.add(alloc, name, facts)? {
+        if !self.is_known(name) && self.own.add(alloc, name, facts)? {
+            self.listed = OnceCell::new();
             return Ok(());
         }
         let file = self.file.as_str();
@@ -141,24 +165,62 @@ impl GivenTargets {
         Err(Refusal::Unusable(line))
     }
 
-    /// Returns the targets, in the order of the file.
-    pub fn table(&self) -> &TargetTable {
-        &self.table
+    /// Returns the targets: the known ones, if they are among them, and then those of the file. Fails only if an
+    /// allocation fails.
+    pub fn table(&self, alloc: Global) -> Result<&TargetTable, AllocError> {
+        if !self.has_known {
+            return Ok(&self.own);
+        }
+        let own = &self.own;
+        self.listed.get_or_try_init(|| behind_known(alloc, own))
     }
 
     /// Returns the number of targets.
     pub fn count(&self) -> usize {
-        self.table.rows().len()
+        let count = self.own.rows().len();
+        if self.has_known {
+            count.saturating_add(COUNT)
+        } else {
+            count
+        }
+    }
+
+    /// Returns the names of the targets, in their order.
+    pub fn names(&self, alloc: Global) -> Result<Vec<&str>, AllocError> {
+        let mut names = Vec::new(alloc);
+        if self.has_known {
+            for target in TargetSet::all().iter() {
+                names.push(target.name())?;
+            }
+        }
+        for row in self.own.rows() {
+            names.push(row.name())?;
+        }
+        Ok(names)
+    }
+
+    /// Returns whether a known target that is among these has this name.
+    fn is_known(&self, name: &str) -> bool {
+        self.has_known && KnownTarget::by_name(name).is_some()
+    }
+
+    /// Returns whether there is a target of this name.
+    pub fn has_name(&self, name: &str) -> bool {
+        self.own.by_name(name).is_some() || self.is_known(name)
     }
 
     /// Returns the target of this name.
-    pub fn by_name(&self, name: &str) -> Option<&TargetRow> {
-        self.table.by_name(name)
+    fn by_name(&self, alloc: Global, name: &str) -> Result<Option<&TargetRow>, AllocError> {
+        if self.is_known(name) {
+            Ok(self.table(alloc)?.by_name(name))
+        } else {
+            Ok(self.own.by_name(name))
+        }
     }
 
     /// Returns the target of this name. Fails with a message if there is none.
     pub fn named(&self, alloc: Global, name: &str) -> Result<&TargetRow, Refusal> {
-        match self.table.by_name(name) {
+        match self.by_name(alloc, name)? {
             Some(row) => Ok(row),
             None => {
                 let message = self.unknown(alloc, name)?;
@@ -170,11 +232,7 @@ impl GivenTargets {
 
     /// Returns the first name that differs from this one by one edit.
     pub fn nearest(&self, alloc: Global, name: &str) -> Result<Option<&str>, AllocError> {
-        let mut names = Vec::new(alloc);
-        for row in self.table.rows() {
-            names.push(row.name())?;
-        }
-        Ok(near(name, &names))
+        Ok(near(name, &self.names(alloc)?))
     }
 
     /// Returns the message for a name that no target has, with the nearest one.
@@ -192,8 +250,9 @@ impl GivenTargets {
     /// Returns the names of the targets on which the condition is true.
     pub fn matching(&self, alloc: Global, condition: &Platform) -> Result<Vec<&str>, AllocError> {
         let mut names = Vec::new(alloc);
-        for place in &self.table.matching(alloc, condition)? {
-            if let Some(row) = self.table.rows().get(*place) {
+        let table = self.table(alloc)?;
+        for place in &table.matching(alloc, condition)? {
+            if let Some(row) = table.rows().get(*place) {
                 names.push(row.name())?;
             }
         }
@@ -212,7 +271,7 @@ impl GivenTargets {
     ) -> Result<(bool, bool), AllocError> {
         let mut none = true;
         let mut each = true;
-        for row in self.table.rows() {
+        for row in self.table(alloc)?.rows() {
             let known = TargetFacts {
                 facts: row.facts(),
                 added: &[],
@@ -237,17 +296,18 @@ impl GivenTargets {
 
     /// Returns whether one of the targets has the fact.
     pub fn has(&self, fact: &Cfg) -> bool {
-        self.table
-            .rows()
-            .iter()
-            .any(|row| row.facts().iter().any(|it| it == fact))
+        if self.has_known && !having(fact).is_empty() {
+            return true;
+        }
+        let mut rows = self.own.rows().iter();
+        rows.any(|row| row.facts().iter().any(|it| it == fact))
     }
 
     /// Returns the facts that no built-in target has, each once, as they are written.
     pub fn new_facts(&self, alloc: Global) -> Result<Vec<String>, AllocError> {
         let mut seen = BTreeSet::new(alloc);
         let mut texts = Vec::new(alloc);
-        for row in self.table.rows() {
+        for row in self.own.rows() {
             for fact in row.facts() {
                 if seen.insert(fact)? && having(fact).is_empty() {
                     texts.push(fact.to_string(alloc)?)?;

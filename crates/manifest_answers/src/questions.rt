@@ -128,7 +128,7 @@ fn unknown_in_file(
     given: &GivenTargets,
 ) -> Result<String, AllocError> {
     if let Platform::Name(name) = &condition {
-        if given.by_name(name.as_str()).is_some() {
+        if given.has_name(name.as_str()) {
             return Ok(String::new(alloc));
         }
         let word = Code::UnknownTarget.word();
@@ -268,7 +268,7 @@ fn counted_in(
     let file = given.file.as_str();
     let mut errors = format!(in alloc; "{count} of {whole} targets of {file}\n")?;
     if let Platform::Name(name) = condition {
-        if given.by_name(name.as_str()).is_none() {
+        if !given.has_name(name.as_str()) {
             let message = given.unknown(alloc, name.as_str())?;
             let note = format!(in alloc; "note: {message}\n")?;
             errors.push_str(note.as_str())?;
@@ -331,8 +331,8 @@ pub fn facts_of_lines(alloc: Global, text: &str) -> Result<Vec<Cfg>, Refusal> {
     }
 }
 
-/// Copies of facts.
-fn copied(alloc: Global, facts: &[Cfg]) -> Result<Vec<Cfg>, AllocError> {
+/// Returns copies of facts.
+pub fn copied(alloc: Global, facts: &[Cfg]) -> Result<Vec<Cfg>, AllocError> {
     let mut copies = Vec::new(alloc);
     for fact in facts {
         copies.push(fact.clone(alloc)?).map_err(AllocError::from)?;

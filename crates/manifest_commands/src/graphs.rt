@@ -147,7 +147,7 @@ fn answer_with<R: Files + Input + Env + AllocGlobal>(
         Err(refusal) => return Ok(answered(alloc, Err(refusal))?),
     };
     let facts_of = match given {
-        Some(given) => Some((given.file.as_str(), given.table())),
+        Some(given) => Some((given.file.as_str(), given.table(alloc)?)),
         None => None,
     };
     let html = match matches.get_str("html") {

@@ -80,7 +80,7 @@ impl OtherRustc {
     fn named(&self, alloc: Global, report: &Report<'_>) -> Result<Vec<bool>, AllocError> {
         let mut named = Vec::new(alloc);
         for key in &report.keys {
-            named.push(self.given.by_name(key.text).is_some())?;
+            named.push(self.given.has_name(key.text))?;
         }
         Ok(named)
     }
@@ -123,8 +123,7 @@ impl OtherRustc {
     fn lacks(&self, condition: &Platform) -> bool {
         match condition {
             Platform::Name(name) => {
-                self.given.by_name(name.as_str()).is_none()
-                    && KnownTarget::by_name(name.as_str()).is_some()
+                !self.given.has_name(name.as_str()) && KnownTarget::by_name(name.as_str()).is_some()
             }
             Platform::Cfg(_) => false,
         }
@@ -164,9 +163,9 @@ impl OtherRustc {
 /// Returns the names of these targets that rustc knew only until some release.
 fn formers_among(alloc: Global, given: &GivenTargets) -> Result<Vec<String>, AllocError> {
     let mut names = Vec::new(alloc);
-    for row in given.table().rows() {
-        if former_target(row.name()).is_some() {
-            names.push(String::from_str(alloc, row.name())?)?;
+    for name in given.names(alloc)? {
+        if former_target(name).is_some() {
+            names.push(String::from_str(alloc, name)?)?;
         }
     }
     Ok(names)

@@ -19,8 +19,8 @@ fn every_name(alloc: Global, from: FactsFrom<'_>) -> Result<Vec<String>, AllocEr
     let mut names = Vec::new(alloc);
     match from {
         FactsFrom::File(given) => {
-            for row in given.table().rows() {
-                names.push(String::from_str(alloc, row.name())?)?;
+            for name in given.names(alloc)? {
+                names.push(String::from_str(alloc, name)?)?;
             }
         }
         FactsFrom::Known | FactsFrom::Lines(_) => {

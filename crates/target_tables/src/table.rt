@@ -54,6 +54,16 @@ pub struct TargetTable {
 }
 
 impl TargetTable {
+    /// Returns the table of no targets.
+    pub fn new(alloc: Global) -> TargetTable
+        // It has no row.
+        ensures { rows_of result ≡ [] }
+    {
+        TargetTable {
+            rows: Vec::new(alloc),
+        }
+    }
+
     /// Returns the table of the known targets. Fails only if an allocation fails.
     pub fn of_known_targets(alloc: Global) -> Result<TargetTable, AllocError>
         // The rows are exactly the known targets, in their order, each with its name and its facts.
