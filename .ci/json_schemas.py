@@ -8,6 +8,7 @@ import functools
 import json
 import re
 
+import sarif
 from crates import ROOT
 from sources import documented
 
@@ -193,5 +194,7 @@ def misfits(words, output, most=20):
     names = names_of(words)
     if not names or not output:
         return []
-    values = [output] if names == ["SarifLog"] else output.splitlines()[:most]
-    return [it for text in values for it in faults({"anyOf": [schemas()[name] for name in names]}, json.loads(text))]
+    is_sarif = names == ["SarifLog"]
+    values = [output] if is_sarif else output.splitlines()[:most]
+    wrong = [it for text in values for it in faults({"anyOf": [schemas()[name] for name in names]}, json.loads(text))]
+    return wrong + (sarif.faults(output) if is_sarif else [])

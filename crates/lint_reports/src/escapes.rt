@@ -1,4 +1,4 @@
-//! Escaped texts of GitHub's workflow commands, and paths as URIs.
+//! Escaped texts of GitHub's workflow commands and of SARIF, and paths as URIs.
 //!
 //! As in the toolkit of GitHub's actions, a command has `%`, carriage returns and line feeds as `%` and two hexadecimal
 //! digits, and a property has `:` and `,` in that form too.
@@ -46,4 +46,17 @@ pub fn uri_of(alloc: Global, path: &str) -> Result<String, AllocError> {
         }
     }
     Ok(uri)
+}
+
+/// Returns a text as a message of SARIF has it. Braces are doubled there, since `{0}` stands for an argument. Fails if
+/// memory is refused.
+pub fn braced(alloc: Global, text: &str) -> Result<String, AllocError> {
+    let mut message = String::new(alloc);
+    for c in text.chars() {
+        if c == '{' || c == '}' {
+            message.push(c)?;
+        }
+        message.push(c)?;
+    }
+    Ok(message)
 }

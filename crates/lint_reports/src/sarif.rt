@@ -1,7 +1,7 @@
 //! Diagnostics in the Static Analysis Results Interchange Format (SARIF), 2.1.0, a standard of OASIS.
 
 use crate::codes::{Explained, all_explained};
-use crate::escapes::uri_of;
+use crate::escapes::{braced, uri_of};
 use diagnostics::{LintLevel, Replacement, Reported, end_of, level_word, replacement_of};
 use key_answers::json_lines;
 use manifests::locations::Location as Place;
@@ -281,7 +281,9 @@ fn locations_of(alloc: Global, reported: &Reported<'_>) -> Result<Vec<Location>,
 /// Returns the subject, the message, the helps and the notes of a diagnostic.
 fn message_of(alloc: Global, reported: &Reported<'_>) -> Result<OwnedMessage, AllocError> {
     let text = reported.diagnostic.paragraph(alloc)?;
-    Ok(OwnedMessage { text })
+    Ok(OwnedMessage {
+        text: braced(alloc, text.as_str())?,
+    })
 }
 
 /// Returns the change at one of the places of a replacement, with the text to write there.
@@ -306,7 +308,7 @@ fn fix_of(
         replacements.push(rewrite_at(reported, *at, &replacement.text)?)?;
     }
     let help = reported.diagnostic.help_of_suggestion().unwrap_or("");
-    let description = String::from_str(alloc, help)?;
+    let description = braced(alloc, help)?;
     let change = ArtifactChange {
         artifact_location: ArtifactLocation {
             uri: uri_of(alloc, reported.path)?,
