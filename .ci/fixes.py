@@ -3,9 +3,11 @@
 Each case has the files before and after, and the files that are named as fixed, with how many fixes. A dry run has to
 write nothing, and `patch` has to make the same files by what it prints. A second run has to change nothing.
 """
+import concurrent.futures
 import os
 import stat
 import subprocess
+import time
 
 from asked import ask, cases, try_question
 from checks import bytes_of, check, json_lines, room_of
@@ -112,6 +114,35 @@ def try_refused():
         (room / "folder").chmod(0o755)
 
 
+def change_between(path, text, pipe, run):
+    """Writes a text to a file as soon as a run opens a named pipe, which it reads after the file. The pipe is empty each
+    time that it is opened."""
+    is_written = False
+    while not run.done():
+        try:
+            file = os.open(pipe, os.O_WRONLY | os.O_NONBLOCK)
+        except OSError:
+            time.sleep(0.01)
+            continue
+        if not is_written:
+            path.write_text(text)
+            is_written = True
+        os.close(file)
+
+
+def try_changed():
+    """A file that changes after it was read: it stays as it is, and what was read of it is reported."""
+    with room_of({"Cargo.toml": SPACED}) as room, concurrent.futures.ThreadPoolExecutor() as pool:
+        os.mkfifo(room / "pipe.toml")
+        run = pool.submit(ask, ["lint", "-q", "--fix", *CANONICAL, "Cargo.toml", "pipe.toml"], cwd=room)
+        change_between(room / "Cargo.toml", f"{SPACED}# changed\n", room / "pipe.toml", run)
+        status, output, errors = run.result()
+        check("a file that changes: errors", (status, errors),
+              (2, "Cargo.toml: error: nothing is fixed: the file has changed since it was read\n"))
+        check("a file that changes: what is reported", output.startswith("warning[not-canonical]: "), True)
+        check("a file that changes: the file", (room / "Cargo.toml").read_text(), f"{SPACED}# changed\n")
+
+
 def try_words():
     """Arguments beside `--fix`."""
     with room_of({"Cargo.toml": SPACED + "[target.'cfg(macos)'.dependencies]\n"}) as room:
@@ -152,5 +183,5 @@ def try_fixes():
         try_case(case)
     try_case({"name": "far apart", "before": far_apart(" "), "after": far_apart(""), "fixed": {"Cargo.toml": 12},
               "ask": [*CANONICAL, "--allow", "custom", "Cargo.toml"]})
-    for step in (try_diff, try_links, try_refused, try_words, try_overlapping, try_many):
+    for step in (try_diff, try_links, try_refused, try_changed, try_words, try_overlapping, try_many):
         step()
