@@ -4,6 +4,7 @@ A tree is a fact or a truth as it prints, as `unix`, `r#all`, `k = "v"` or `true
 trees inside. The reader goes by recursive descent, as crates/cargo_platform/GRAMMAR.md says. It runs no program.
 """
 import re
+import unicodedata
 
 CALLED = {"(": "`(`", ")": "`)`", ",": "`,`", "=": "`=`", "string": "a string", "name": "an identifier"}
 UNTERMINATED = "unterminated string in cfg"
@@ -110,6 +111,20 @@ def read(text, rule=Reader.expression, tokens=None):
     if kind == "end":
         return found
     return Refused(f"unexpected content `{text[at:]}` found after cfg expression", at, len(text))
+
+
+def read_target(text):
+    """Returns why a text is rejected as the name of a target, or None."""
+    # Of the characters in the texts none is alphabetic but no letter.
+    is_allowed = lambda c: c in "_-." or unicodedata.category(c)[0] in "LN"
+    bad = next((at for at, c in enumerate(text) if not is_allowed(c)), None)
+    if bad is None:
+        return None
+    message, start, end = f"unexpected character {text[bad]} in target name", bad, bad + 1
+    if "(" in text:
+        message = "unexpected `(` character, cfg expressions must start with `cfg(`"
+        start, end = (len(text), len(text)) if text.startswith("cfg(") else (start, end)
+    return Refused(f"invalid target specifier: {message}", start, end)
 
 
 def shown(tree):

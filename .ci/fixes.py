@@ -115,8 +115,8 @@ def try_refused():
 
 
 def change_between(path, text, pipe, run):
-    """Writes a text to a file as soon as a run opens a named pipe, which it reads after the file. The pipe is empty each
-    time that it is opened."""
+    """Writes a text to a file as soon as a run opens a named pipe, which it reads after the file. The pipe is empty
+    each time that it is opened."""
     is_written = False
     while not run.done():
         try:
