@@ -1,6 +1,6 @@
 -- The features that are requested of packages: by their names, or all.
 use Rattle.std.specs.Prelude.{◌≡◌, ◌==◌, ◌<◌, ◌+◌, ◌⊎◌, ◌&&◌, ◌||◌, ℕ, Bool, true, false, not, cond, codes}
-use Rattle.std.specs.Prelude.{List, Option, Some, None, Any, Vec, length, map, nat_lt, bytes_eq, slice_get}
+use Rattle.std.specs.Prelude.{List, Option, Some, None, Any, Vec, length, nat_lt, bytes_eq, slice_get}
 use Rattle.std.specs.List.{position_or_len, before_first, after_first}
 use Rattle.std.specs.Borrow.{Bor}
 use Rattle.std.specs.Global.{Global}

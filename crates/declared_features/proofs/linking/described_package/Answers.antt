@@ -1,4 +1,4 @@
-use Rattle.std.proofs.Common.{◌≡◌, ℕ, ◌-◌, ◌∷◌, [], List, cond, length, refl, subst, ap, ◌∙◌}
+use Rattle.std.proofs.Common.{ℕ, ◌-◌, ◌∷◌, [], List, cond, length, refl, subst, ap, ◌∙◌}
 use Rattle.std.proofs.lemmas.Option.{slice_get_read}
 use Rattle.declared_features.specs.Edges.{name_at}
 use Rattle.declared_features.specs.Manifests.{features_at}

@@ -1,10 +1,10 @@
-use Rattle.std.proofs.Common.{◌≡◌, ◌∙◌, sym, ap, List, ◌∷◌, [], ◌++◌, append_assoc, Option, string_bytes}
+use Rattle.std.proofs.Common.{◌≡◌, ◌∙◌, sym, ap, ◌∷◌, [], append_assoc, Option, string_bytes}
 use Rattle.std.specs.Prelude.{option_and_then}
 use Rattle.std.proofs.lemmas.List.{append-nil}
 use Rattle.serde_json.specs.Data.{Data}
 use Rattle.serde_json.specs.Find.{as_object}
 use Rattle.serde_json.specs.View.{view, members_view}
-use Rattle.declared_features.specs.Documents.{IsFeature, AreFeatures}
+use Rattle.declared_features.specs.Documents.{IsFeature}
 use Rattle.declared_features.specs.declared.manifests.Feature.{Feature}
 use Rattle.declared_features.proofs.manifests.features_of.Goals as goal
 
