@@ -80,12 +80,17 @@ def divided(names, sizes, count):
 
 
 def parts(text, count, unneeded, alone=()):
-    """The text of each part of a module, and then that of a part with the functions `alone`, if there are any. Lines
-    that match `unneeded` are left out."""
+    """The texts of the parts of a module, without the lines that match `unneeded`.
+
+    With `alone` there is one part more for these functions. Before it is one for what only they need, and no export, if
+    the module has exports.
+    """
     module = Module(text, unneeded)
-    used = reached([it for it in module.texts if not module.is_internal(it)], module.uses)
-    large = {it for it in used if module.size(it) > SMALL or not module.is_internal(it)} - {*alone}
-    large |= {it for name in alone for it in module.uses(name)} - {*alone}
-    lists = divided(sorted(large), module.size, count)
-    lists += [[*alone]] if alone else []
+    visible = [it for it in module.texts if not module.is_internal(it)]
+    used = reached(visible, module.uses)
+    large = {it for it in used if module.size(it) > SMALL or not module.is_internal(it)}
+    large = (large | {it for name in alone for it in module.uses(name)}) - {*alone}
+    exported = reached([it for it in visible if it not in alone], module.uses) or large
+    lists = divided(sorted(large & exported), module.size, count)
+    lists += [own for own in (sorted(large - exported), [*alone]) if own]
     return [module.part({*own}, large | {*alone}) for own in lists]
