@@ -51,13 +51,17 @@ def facts_of_targets():
 
 
 def reason_of(key):
-    """Returns why a key is rejected, or None."""
+    """Returns why a key is rejected, or None. Where `cfg(` is missing, the reason names the character at its place."""
     inside = inside_of_key(key)
     found = read_target(key) if inside is None else read(inside)
     if not isinstance(found, Refused):
         return None
-    is_unclosed = inside is None and key.startswith("cfg(")
-    return "it begins with `cfg(` and does not end with `)`" if is_unclosed else found.args[0]
+    reason, start, end = found.args
+    if inside is not None or "(" not in key:
+        return reason
+    if key.startswith("cfg("):
+        return "it begins with `cfg(` and does not end with `)`"
+    return reason.replace("`(`", f"`{key[start:end]}`")
 
 
 def in_toml(text):

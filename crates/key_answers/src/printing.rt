@@ -1,13 +1,17 @@
 //! The text forms of facts, examples and errors.
 
-ghost use Rattle.std.specs.Prelude.{◌≡◌, ◌++◌, IfOk, OnOk, flat_map, map, string_bytes};
+ghost use Rattle.std.specs.Prelude.{◌≡◌, ◌++◌, ◌==◌, IfOk, OnOk, flat_map, map, string_bytes};
+ghost use Rattle.std.specs.List.{list_any};
+ghost use Rattle.cargo_platform.specs.FaultLaws.{IsSpanIn};
 ghost use Rattle.cargo_platform.specs.Trees.{value_of};
-ghost use Rattle.key_answers.specs.Printing.{fact_line, deep_key};
+ghost use Rattle.key_answers.specs.Printing.{fact_line, deep_key, is_unclosed, is_unopened, error_text, unopened_text};
+ghost use Rattle.key_answers.specs.Printing.{IsKeyReason};
 
 use cargo_platform::{Cfg, ParseError, shown_start};
 use exact_answers::PossibleTarget;
 use input_limits::deep_text;
 use std::alloc::{AllocError, Global};
+use std::ops::Range;
 
 /// Appends the fact as `rustc --print cfg` prints it, and a line end.
 pub fn push_fact_line(text: &mut String, fact: &Cfg) -> Result<(), AllocError>
@@ -108,10 +112,84 @@ fn push_fault(
     }
 }
 
+/// Returns whether a key begins with `cfg(` and does not end with `)`.
+fn is_unclosed(key: &str) -> bool
+    ensures { result ≡ is_unclosed key.now }
+{
+    key.as_bytes().starts_with(b"cfg(") && !key.as_bytes().ends_with(b")")
+}
+
+/// Returns whether a key contains `(`.
+fn has_parenthesis(key: &str) -> bool
+    ensures { result ≡ list_any (λ c. c == 0x28) key.now }
+{
+    key.bytes().any(|byte| byte == b'(')
+}
+
+/// Returns whether a key contains `(` and does not begin with `cfg(`.
+fn is_unopened(key: &str) -> bool
+    ensures { result ≡ is_unopened key.now }
+{
+    has_parenthesis(key) && !key.as_bytes().starts_with(b"cfg(")
+}
+
+/// Returns why a text is rejected, escaped and shortened.
+fn error_text(alloc: Global, error: &ParseError) -> Result<String, AllocError>
+    ensures { IfOk result (λ s. string_bytes s ≡ error_text error.now) }
+{
+    let kind = error.kind();
+    let text = format!(in alloc; "{kind}")?;
+    shown_start(alloc, text.as_str())
+}
+
+/// Returns why a key is rejected that contains `(` and does not begin with `cfg(`. The text names the character at this
+/// span.
+fn unopened_text(alloc: Global, key: &str, span: Range<usize>) -> Result<String, AllocError>
+    ensures { IfOk result (λ s. IsSpanIn key.now span → string_bytes s ≡ unopened_text key.now span) }
+{
+    let refused = key.get(span.start..span.end).unwrap_or("");
+    let shown = shown_start(alloc, refused)?;
+    format!(in alloc;
+        "invalid target specifier: unexpected `{shown}` character, cfg expressions must start with `cfg(`"
+    )
+}
+
+/// Returns why a key is rejected, on one line: the error, but for a key in which `cfg(` or `)` is missing that this is
+/// so. A character that the text names is the one at the span of the error. Fails if memory is refused.
+pub fn key_reason(alloc: Global, key: &str, error: &ParseError) -> Result<String, AllocError>
+    ensures { IfOk result (λ s. IsKeyReason key.now error.now (string_bytes s)) }
+{
+    if is_unclosed(key) {
+        return String::from_str(alloc, "it begins with `cfg(` and does not end with `)`");
+    }
+    if !is_unopened(key) {
+        return error_text(alloc, error);
+    }
+    match error.span() {
+        Some(span) => unopened_text(alloc, key, span),
+        None => error_text(alloc, error),
+    }
+}
+
+/// Returns the two lines that show where a key is rejected, with the reason after the carets, if its place is known.
+fn key_snippet(alloc: Global, key: &str, error: &ParseError) -> Result<Option<String>, AllocError> {
+    let Some(lines) = error.snippet_in(alloc, key)? else {
+        return Ok(None);
+    };
+    let fault = error_text(alloc, error)?;
+    match lines.as_str().strip_suffix(fault.as_str()) {
+        Some(carets) => {
+            let reason = key_reason(alloc, key, error)?;
+            Ok(Some(format!(in alloc; "{carets}{reason}")?))
+        }
+        None => Ok(Some(lines.clone()?)),
+    }
+}
+
 /// Returns the message for an invalid key.
 pub fn refused_key(alloc: Global, key: &str, error: &ParseError) -> Result<String, AllocError> {
     let mut text = String::from_str(alloc, "error: invalid key\n")?;
-    let snippet = error.snippet_in(alloc, key)?;
+    let snippet = key_snippet(alloc, key, error)?;
     push_fault(&mut text, alloc, error, snippet)?;
     Ok(text)
 }

@@ -1,12 +1,11 @@
 -- The names that fixes give, and the map of them.
-use Rattle.std.proofs.Common.{◌≡◌, ℕ, ◌⊎◌, List, ◌∷◌, ◌++◌, Some, All, Contains, option_map, BTreeMap, String}
-use Rattle.std.proofs.Common.{Global, string_bytes, string_cmp, bytes_eq, arith, refl, sym, ap, ◌∙◌, subst, inl, inr}
+use Rattle.std.proofs.Common.{◌≡◌, ℕ, ◌⊎◌, List, ◌∷◌, ◌++◌, Some, Contains, option_map, BTreeMap, String}
+use Rattle.std.proofs.Common.{Global, string_bytes, string_cmp, bytes_eq, arith, refl, sym, ap, ◌∙◌, inl, inr}
 use Rattle.std.proofs.lemmas.Bool.{cases_Bool}
 use Rattle.std.proofs.lemmas.List.Elements.{Contains-append_right}
 use Rattle.std.proofs.lemmas.Map.Text.{btree_map_updates_text}
 use Rattle.std.proofs.lemmas.Slice.Eq.{bytes_eq-Decides}
 use Rattle.std.specs.BTreeMap.{Updates, get_by_text}
-use Rattle.lint_fixes.specs.Fixing.{IsFixOf}
 use Rattle.lint_fixes.specs.Names.{IsRename}
 use Rattle.lint_fixes.specs.declared.fixing.Fix.{Fix}
 
@@ -29,10 +28,3 @@ renamed_by m n key value updates name new h =
 
 pub contains_middle : (done : List Fix) (fix : Fix) (more : List Fix) → Contains (done ++ fix ∷ more) fix
 contains_middle done fix more = Contains-append_right done (fix ∷ more) fix (0, omega arith, refl)
-
--- what a chosen fix gives is given by one of the fixes
-pub given_by : (fixes chosen : List Fix) → All (Contains fixes) chosen → (name new : List ℕ)
-    → IsFixOf chosen name new → IsFixOf fixes name new
-given_by fixes chosen all name new h =
-    let fix = h.0 in
-    (fix, subst (λ x. Contains fixes x) h.1.2 (all h.1.0 fix h.1.1), h.2, h.3)

@@ -2,3 +2,4 @@ pub mod Members
 pub mod NameMaps
 pub mod Renaming
 pub mod GivenNames
+pub mod Replaced

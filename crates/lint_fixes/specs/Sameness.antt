@@ -1,5 +1,5 @@
 -- When a fixed manifest is the same document as the manifest, but for what fixes change.
-use Rattle.std.specs.Prelude.{◌≡◌, ℕ, ⊤, Bool, true, false, IsSome, List, ◌⊎◌, bytes_eq, codes, if◌then◌else◌, ◌||◌}
+use Rattle.std.specs.Prelude.{◌≡◌, ℕ, ⊤, Bool, true, false, IsSome, is_some, List, ◌⊎◌, bytes_eq, codes, if◌then◌else◌, ◌||◌}
 use Rattle.std.specs.Prelude.{Option, None, Some, suc, ◌+◌}
 use Rattle.std.specs.Option.{option_and_then}
 use Rattle.toml.specs.Data.{Data, array, table, Items, no_items, item, Members, get_member, as_table}
@@ -114,6 +114,10 @@ AreSameBut change MayBecome =
 -- the table with that name in a table
 abbrev pub table_at : List ℕ → Members → Option Members
 table_at name ms = option_and_then as_table (get_member name ms)
+
+-- whether `target` of a manifest has a key
+abbrev pub has_key : List ℕ → Members → Bool
+has_key name manifest = is_some (option_and_then (get_member name) (table_at (codes "target") manifest))
 
 -- how many items a list has
 abbrev pub count_items : Items → ℕ

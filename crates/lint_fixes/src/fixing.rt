@@ -1,11 +1,15 @@
 //! `lint --fix`: the suggestions of diagnostics, applied to a manifest.
 
-ghost use Rattle.std.specs.Prelude.{All, Contains, IfOk, List, ℕ, vec_len};
-ghost use Rattle.lint_fixes.specs.Fixing.{IfFixed, IsEditedTo, IsFixOf, IsSameDocument, SpellsItsTable};
+ghost use Rattle.std.specs.Prelude.{◌≡◌, [], true, All, Contains, IfOk, List, ℕ, vec_len};
+ghost use Rattle.std.specs.List.{list_all};
+ghost use Rattle.toml.specs.View.{table_view};
+ghost use Rattle.lint_fixes.specs.Fixing.{AreAmong, IfFixed, IsEditedTo, IsFixOf, IsSameDocument};
+ghost use Rattle.lint_fixes.specs.Fixing.{HasNoneOf, LacksReplaced, SpellsItsTable, finds_key, is_replaced};
 ghost use Rattle.lint_fixes.specs.Names.{IsRename};
+ghost use Rattle.lint_fixes.specs.declared.fixing.Outcome.TheVariants.{Unchanged};
 
 use crate::replacing::{CHANGED, FileChange, text_read, write_change};
-use crate::sameness::{Renames, is_same_manifest};
+use crate::sameness::{Renames, has_key, is_same_manifest};
 use cargo_platform::shown_text;
 use diagnostics::{Diagnostic, Replacement, removals_of, replacement_of};
 use input_limits::without_mark;
@@ -17,7 +21,7 @@ use text_edits::{Edit, apply, unified_diff};
 use toml::Table;
 use toml_parser::ParseError;
 use toml_spans::{Span, name_at_front};
-use workspaces::{Documents, table_in, table_of};
+use workspaces::{Documents, table_of};
 
 /// The options that go with `--fix`.
 #[derive(Clone, Copy, Drop)]
@@ -60,7 +64,9 @@ struct FixedText {
     text: String,
     table: Table,
     edits: Vec<Edit>,
-    /// The number of fixes that were applied.
+    /// The fixes that were applied, except entries that were removed.
+    fixes: Vec<Fix>,
+    /// The number of fixes that were applied, with these entries.
     count: usize,
 }
 
@@ -187,12 +193,20 @@ impl Fixes {
     }
 }
 
-/// Returns whether `target` of a manifest has a key.
-fn has_key(manifest: &Table, name: &str) -> bool {
-    match table_in(manifest, "target") {
-        Some(keys) => keys.get(name).is_some(),
-        None => false,
-    }
+/// Returns whether a fix replaces no key, or one that `target` of a manifest has.
+fn finds_key(manifest: &Table, fix: &Fix) -> bool
+    ensures { result ≡ finds_key (table_view manifest.now) fix.now }
+{
+    !fix.is_key || has_key(manifest, fix.from.as_str())
+}
+
+/// Returns whether `target` of a fixed manifest has none of the keys that fixes replace.
+fn are_replaced(fixed: &Table, fixes: &[Fix]) -> bool
+    ensures { result ≡ list_all (is_replaced (table_view fixed.now)) fixes.now }
+{
+    fixes
+        .iter()
+        .all(|fix| !fix.is_key || !has_key(fixed, fix.from.as_str()))
 }
 
 /// The places and the keys of the fixes that are chosen so far.
@@ -203,9 +217,15 @@ struct Taken {
 }
 
 impl Taken {
-    /// Records a fix, unless its place is taken, or it gives a key the name of another key. Returns whether it is
-    /// recorded.
-    fn add(&mut self, manifest: &Table, fix: &Fix) -> Result<bool, AllocError> {
+    /// Records a fix, unless its place is taken, the manifest lacks the key that it replaces, or it gives a key the
+    /// name of another key. Returns whether it is recorded.
+    fn add(&mut self, manifest: &Table, fix: &Fix) -> Result<bool, AllocError>
+        // It replaces a key that the manifest has.
+        ensures { IfOk result (λ is. is ≡ true → finds_key (table_view manifest.now) fix.now ≡ true) }
+    {
+        if !finds_key(manifest, fix) {
+            return Ok(false);
+        }
         let Some(first) = fix.spans.first() else {
             return Ok(false);
         };
@@ -225,10 +245,12 @@ impl Taken {
 }
 
 /// Returns the fixes that can be applied together to a manifest: of several at one place the first one, and none that
-/// gives a key of `target` the name of another key.
+/// replaces a key of `target` that it lacks, or gives one the name of another key.
 fn chosen_fixes(alloc: Global, fixes: Vec<Fix>, manifest: &Table) -> Result<Vec<Fix>, AllocError>
     // Each is one of the fixes.
-    ensures { IfOk result (λ chosen. All (Contains fixes.items) chosen.items) }
+    ensures among { IfOk result (λ chosen. All (Contains fixes.items) chosen.items) }
+    // Each replaces a key that the manifest has, if it replaces a key.
+    ensures found { IfOk result (λ chosen. list_all (finds_key (table_view manifest.now)) chosen.items ≡ true) }
 {
     let mut taken = Taken {
         starts: BTreeSet::new(alloc),
@@ -299,9 +321,15 @@ fn fixed_text(
     ensures edited { IfOk result (λ it. IfFixed it (IsEditedTo text.now)) }
     // A fixed text is TOML, and spells the recorded table.
     ensures spelled { IfOk result (λ it. IfFixed it SpellsItsTable) }
-    // The recorded table is that of the text, but for names that these fixes give, and as many entries of lists of
-    // allowed lints as are to be removed.
-    ensures same { IfOk result (λ it. IfFixed it (IsSameDocument text.now fixes.items (vec_len removed))) }
+    // The recorded fixes are among these.
+    ensures among { IfOk result (λ it. IfFixed it (AreAmong fixes.items)) }
+    // The recorded table is that of the text, but for names that the recorded fixes give, and as many entries of lists
+    // of allowed lints as are to be removed.
+    ensures same { IfOk result (λ it. IfFixed it (IsSameDocument text.now (vec_len removed))) }
+    // A fixed text has none of the keys that the recorded fixes replace.
+    ensures replaced { IfOk result (λ it. IfFixed it LacksReplaced) }
+    // A text that has none of the keys that the fixes replace stays as it is.
+    ensures unchanged { IfOk result (λ it. HasNoneOf text.now fixes.items → removed.items ≡ [] → it ≡ Unchanged) }
 {
     let Some(manifest) = table_of(alloc, text)? else {
         return Ok(Outcome::Unchanged);
@@ -323,11 +351,16 @@ fn fixed_text(
     if !is_same_manifest(alloc, &manifest, &table, &renames, count)? {
         return Ok(Outcome::Refused("the fixed text would be another document"));
     }
+    if !are_replaced(&table, &fixes) {
+        return Ok(Outcome::Refused("a key would not be replaced"));
+    }
+    let count = fixes.len().saturating_add(count);
     Ok(Outcome::Fixed(FixedText {
         text: fixed,
         table,
         edits,
-        count: fixes.len().saturating_add(count),
+        fixes,
+        count,
     }))
 }
 
@@ -407,6 +440,7 @@ fn fix_text<R: Files + AllocGlobal>(
         text,
         table,
         edits: _edits,
+        fixes: _fixes,
         count: _count,
     } = fixed;
     documents.put(rt, path, text, Some(table))?;

@@ -6,7 +6,7 @@ ghost use Rattle.toml.specs.View.{view, items_view, table_view};
 ghost use Rattle.lint_fixes.specs.Sameness.{AreSameBut, IsSameBut, IsSameManifest, LacksSome};
 ghost use Rattle.lint_fixes.specs.Sameness.{allowed_count, allowed_in, count_items, count_of};
 ghost use Rattle.lint_fixes.specs.Sameness.{has_entries, has_members, member_change, member_of, renames_members};
-ghost use Rattle.lint_fixes.specs.Sameness.{table_at};
+ghost use Rattle.lint_fixes.specs.Sameness.{has_key, table_at};
 ghost use Rattle.lint_fixes.specs.Names.{AreOldNames, IsRename, change_at, name_in, old_name};
 
 use crate::equality::is_same_value;
@@ -236,6 +236,16 @@ fn table_at<'a>(table: &'a Table, name: &str) -> Option<&'a Table>
     match member_in(table, name) {
         Some(value) => value.as_table(),
         None => None,
+    }
+}
+
+/// Returns whether `target` of a manifest has a key.
+pub fn has_key(manifest: &Table, name: &str) -> bool
+    ensures { result ≡ has_key name.now (table_view manifest.now) }
+{
+    match table_at(manifest, "target") {
+        Some(keys) => has_member(keys, name),
+        None => false,
     }
 }
 

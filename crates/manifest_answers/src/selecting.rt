@@ -10,7 +10,7 @@ use crate::questions::{added_facts, facts_from, unknown_name};
 use cargo_platform::{Cfg, ParseError, shown_start};
 use key_answers::answer::{Answer, Refusal, Status};
 use key_answers::json_lines;
-use key_answers::printing::refused_key;
+use key_answers::printing::{key_reason, refused_key};
 use known_targets::KnownTarget;
 use manifest_lints_findings::shown_table;
 use manifests::reading::Manifest;
@@ -253,9 +253,9 @@ fn refused_message(alloc: Global, error: &SelectError<'_>) -> Result<String, All
         SelectError::Memory(_) => Err(AllocError),
         SelectError::TargetIsNoTable => String::from_str(alloc, "`target` is not a table"),
         SelectError::KeyIsNoTable(_) => String::from_str(alloc, "it is not a table"),
-        SelectError::Refused(_, error) => {
-            let kind = error.kind();
-            format!(in alloc; "invalid key: {kind}")
+        SelectError::Refused(key, error) => {
+            let reason = key_reason(alloc, key, error)?;
+            format!(in alloc; "invalid key: {reason}")
         }
     }
 }

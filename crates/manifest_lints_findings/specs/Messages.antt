@@ -1,19 +1,17 @@
 -- The message of each lint by value, and the names and numbers that its notes and its helps contain. The words between
 -- those are free.
-use Rattle.std.specs.Prelude.{◌≡◌, ℕ, Bool, false, not, ◌&&◌, List, [], ◌∷◌, ◌++◌, codes, cond, nat_eq, take, string_bytes}
+use Rattle.std.specs.Prelude.{◌≡◌, ℕ, false, List, [], ◌∷◌, ◌++◌, codes, take, string_bytes}
 use Rattle.std.specs.Prelude.{flat_map}
 use Rattle.std.specs.Prelude.{String}
 use Rattle.std.specs.Prelude.{Option, Some, None}
-use Rattle.std.specs.List.{join_by, starts_with, ends_with}
+use Rattle.std.specs.List.{join_by}
 use Rattle.std.specs.declared.alloc.Global.{Global}
-use Rattle.cargo_platform.specs.Errors.{fault_in}
-use Rattle.cargo_platform.specs.declared.error.ParseError.{ParseError}
-use Rattle.cargo_platform.specs.Print.{print_fault}
+use Rattle.key_answers.specs.Printing.{IsKeyReason}
 use Rattle.known_targets.specs.declared.table.TheConstants.{RUSTC_VERSION}
 use Rattle.predicate_classes.specs.declared.key_predicates.KeyPredicate.{KeyPredicate}
 use Rattle.predicate_classes.specs.declared.classes.Category.TheVariants as category
 use Rattle.manifest_lints_findings.specs.Chosen.{chosen, fact_text, warnings_on}
-use Rattle.manifest_lints_findings.specs.Texts.{shown_whole, shown_cut, quoted_text, Mentions, and_more}
+use Rattle.manifest_lints_findings.specs.Texts.{shown_whole, quoted_text, Mentions, and_more}
 use Rattle.manifest_lints_findings.specs.Texts.{joined_first, both_texts}
 use Rattle.manifest_lints_findings.specs.declared.chosen.Choice.TheVariants as choice
 use Rattle.manifest_lints_findings.specs.declared.codes.Code.{Code}
@@ -62,20 +60,11 @@ mistakes_text fs = both_texts (lacking_text (chosen choice.NoFeature fs)) (featu
 abbrev pub custom_text : List KeyPredicate → List ℕ
 custom_text fs = both_texts (lacking_text (chosen choice.Stable fs)) (unstable_text (chosen choice.Unstable fs))
 
--- a key that begins with `cfg(` and does not end with `)`
-abbrev pub is_unclosed : List ℕ → Bool
-is_unclosed key = starts_with nat_eq key (codes "cfg(") && not (ends_with nat_eq key (codes ")"))
-
--- the reason why it is rejected: the error, or that it is not closed
-abbrev pub reason_of : List ℕ → ParseError → List ℕ
-reason_of key e =
-    cond (is_unclosed key) (codes "it begins with `cfg(` and does not end with `)`")
-    (shown_cut (print_fault (fault_in e)))
-
-abbrev pub fault_text : List ℕ → KeyMeaning → List ℕ
-fault_text key (spelled.Refused e) = reason_of key e
-fault_text key (spelled.Condition p) = []
-fault_text key (spelled.ByCargo m) = []
+-- the reason why a key is rejected
+abbrev pub IsFaultText : List ℕ → KeyMeaning → List ℕ → Type 0
+IsFaultText key (spelled.Refused e) reason = IsKeyReason key e reason
+IsFaultText key (spelled.Condition p) reason = reason ≡ []
+IsFaultText key (spelled.ByCargo m) reason = reason ≡ []
 
 -- Cargo's first warnings on the key, and the number of the others
 abbrev pub cargo_words : CargoReading → List ℕ
@@ -116,7 +105,8 @@ NamesKey _ key message = Unit {0}
 -- the message about any other key
 abbrev pub Shows : Code → KnownKey → List ℕ → Type 0
 Shows code.Refused k message =
-    message ≡ codes "invalid key: " ++ fault_text k.read.now.text.now k.read.now.spelled
+    (reason : List ℕ) × (message ≡ codes "invalid key: " ++ reason)
+    × IsFaultText k.read.now.text.now k.read.now.spelled reason
 Shows code.NoTable k message = message ≡ joined_first (λ s. string_bytes s) (codes ", ") k.no_tables.items
 Shows code.ReadOtherwise k message = message ≡ read_otherwise k.read.now.spelled k.predicates.items
 Shows code.Unsupported k message =

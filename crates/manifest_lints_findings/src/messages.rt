@@ -2,8 +2,8 @@
 
 ghost use Rattle.std.specs.Prelude.{◌≡◌, ◌++◌, IfOk, codes, string_bytes};
 ghost use Rattle.manifest_lints_findings.specs.Messages.{NamesKey, Shows, no_target, every_target, lacking_text};
-ghost use Rattle.manifest_lints_findings.specs.Messages.{features_text, only_unstable, unstable_text, fault_text};
-ghost use Rattle.manifest_lints_findings.specs.Messages.{unmarked_text, is_unclosed, reason_of};
+ghost use Rattle.manifest_lints_findings.specs.Messages.{features_text, only_unstable, unstable_text, IsFaultText};
+ghost use Rattle.manifest_lints_findings.specs.Messages.{unmarked_text};
 ghost use Rattle.manifest_lints_findings.specs.Texts.{quoted_text};
 
 use crate::chosen::{Choice, chosen};
@@ -11,7 +11,7 @@ use crate::codes::Code;
 use crate::known_keys::KnownKey;
 use crate::readings::KeyMeaning;
 use crate::wording::{both, joined, listed, quoted};
-use cargo_platform::{ParseError, shown_start};
+use key_answers::printing::key_reason;
 use known_targets::RUSTC_VERSION;
 use predicate_classes::classes::Category;
 use predicate_classes::key_predicates::KeyPredicate;
@@ -68,31 +68,12 @@ fn no_table_message(alloc: Global, key: &KnownKey<'_>) -> Result<String, AllocEr
     joined(alloc, &key.no_tables, key.no_tables.len(), ", ")
 }
 
-/// Returns whether a key begins with `cfg(` and does not end with `)`.
-fn is_unclosed(key: &str) -> bool
-    ensures { result ≡ is_unclosed key.now }
-{
-    key.as_bytes().starts_with(b"cfg(") && !key.as_bytes().ends_with(b")")
-}
-
-/// Returns the error of a rejected key, escaped and shortened, or that the key is not closed.
-fn reason_of(alloc: Global, key: &str, error: &ParseError) -> Result<String, AllocError>
-    ensures { IfOk result (λ s. string_bytes s ≡ reason_of key.now error.now) }
-{
-    if is_unclosed(key) {
-        return String::from_str(alloc, "it begins with `cfg(` and does not end with `)`");
-    }
-    let kind = error.kind();
-    let fault = format!(in alloc; "{kind}")?;
-    shown_start(alloc, fault.as_str())
-}
-
 /// Returns the reason why a key is rejected.
 fn fault_of(alloc: Global, key: &str, spelled: &KeyMeaning) -> Result<String, AllocError>
-    ensures { IfOk result (λ s. string_bytes s ≡ fault_text key.now spelled.now) }
+    ensures { IfOk result (λ s. IsFaultText key.now spelled.now (string_bytes s)) }
 {
     match spelled {
-        KeyMeaning::Refused(error) => reason_of(alloc, key, error),
+        KeyMeaning::Refused(error) => key_reason(alloc, key, error),
         KeyMeaning::Condition(_) | KeyMeaning::ByCargo(_) => Ok(String::new(alloc)),
     }
 }
