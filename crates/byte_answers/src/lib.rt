@@ -7,6 +7,7 @@
 mod counted;
 mod depth;
 mod fact_lines;
+mod fact_texts;
 mod flat;
 mod keys;
 mod known;
