@@ -115,6 +115,9 @@ fn by_batch(work: &Work) -> usize {
     answers.iter().filter(|it| **it == Ok(true)).count()
 }
 
+/// How many of the calls are on parsed conditions. These are the first ones.
+const ON_PARSED: usize = 4;
+
 const CALLS: [(&str, fn(&Work) -> usize); 6] = [
     ("by_crate", by_crate),
     ("by_flat", by_flat),
@@ -165,8 +168,10 @@ fn main() {
             return;
         }
         let mut least = [f64::MAX; CALLS.len()];
-        for _ in 0..ROUNDS {
-            for (place, (_, call)) in CALLS.iter().enumerate() {
+        for round in 0..ROUNDS {
+            // The calls on texts take longer, and are made in every tenth round.
+            let calls = if round % 10 == 0 { CALLS.len() } else { ON_PARSED };
+            for (place, (_, call)) in CALLS.iter().enumerate().take(calls) {
                 let start = Instant::now();
                 let counts: Vec<usize> = (0..TIMES).map(|_| black_box(call(&work))).collect();
                 let time = start.elapsed().as_nanos() as f64;

@@ -2,6 +2,7 @@ pub mod Depths
 pub mod Outcomes
 pub mod Refusals
 pub mod Counted
+pub mod FactTexts
 pub mod Flat
 pub mod Pieces
 pub mod Answers

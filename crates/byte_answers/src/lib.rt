@@ -8,6 +8,7 @@ mod batches;
 mod counted;
 mod depth;
 mod fact_lines;
+mod fact_texts;
 mod flat;
 mod keys;
 mod known;

@@ -13,6 +13,7 @@ ghost use Rattle.byte_answers.specs.Depths.{IsTooDeep};
 ghost use Rattle.byte_answers.specs.Outcomes.{HasNoAnswer, HasNoSpan, IsSilent, ends_key_call};
 ghost use Rattle.byte_answers.specs.Refusals.{AreEnds, IsRefusal, IsRefusedLine, IsErrorOfLines};
 
+use crate::fact_texts::{fact_texts, is_true_on};
 use crate::outcome::{DONE, NO_MEMORY, NOT_UTF8, Outcome, REFUSED, TOO_DEEP, write};
 use crate::reading::{read_condition, read_text};
 use cargo_platform::{FactsError, Platform, read_facts};
@@ -66,8 +67,11 @@ pub(crate) fn refused_facts(
     }
 }
 
-/// Decides whether a condition is true on a target with this name and the facts in these lines.
-fn match_lines(
+/// Decides whether a condition is true on a target with this name and the facts in these lines. It copies the facts, and
+/// so has the error of a line that is not one.
+#[cold]
+#[inline(never)]
+fn match_copies(
     alloc: Global,
     platform: &Platform,
     name: &str,
@@ -88,6 +92,32 @@ fn match_lines(
     match read_facts(alloc, lines) {
         Ok(facts) => Outcome::answered(platform.matches(name, &facts)),
         Err(error) => refused_facts(alloc, LINES, &error, lines, out),
+    }
+}
+
+/// Decides whether a condition is true on a target with this name and the facts in these lines.
+fn match_lines(
+    alloc: Global,
+    platform: &Platform,
+    name: &str,
+    lines: &str,
+    out: &mut [u8],
+) -> Outcome
+    ensures done { result.code ≡ DONE → (facts : List CfgValue) × (SpellFacts (lines_of lines.now) facts
+        × (result.holds ≡ truth_of_condition name.now (fact_set facts) (condition_of platform.now))) }
+    ensures refused { result.code ≡ REFUSED → IsRefusedLine lines.now result out.old out.new }
+    ensures codes { IsTrue (result.code == DONE || result.code == REFUSED || result.code == NO_MEMORY) }
+    ensures silent { result.code ≢ REFUSED → IsSilent result out.old out.new }
+    ensures argument { result.code ≡ REFUSED → result.argument ≡ LINES }
+    ensures holds { result.code ≢ DONE → HasNoAnswer result }
+    ensures named { result.is_named ≡ false }
+    ensures span { result.code ≢ REFUSED → HasNoSpan result }
+    ensures place { IsTrue (result.argument == 0 || result.argument == 1 || result.argument == 2) }
+{
+    match fact_texts(alloc, lines) {
+        Ok(Some(facts)) => Outcome::answered(is_true_on(platform, name, &facts)),
+        Ok(None) => match_copies(alloc, platform, name, lines, out),
+        Err(_) => Outcome::ended(NO_MEMORY, LINES),
     }
 }
 
