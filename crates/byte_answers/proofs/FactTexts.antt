@@ -1,5 +1,5 @@
 -- The calls of a tokenizer that go through the line of a fact, and the set of facts that borrow their texts.
-use Rattle.std.proofs.Common.{◌≡◌, refl, sym, ap, ◌∙◌, ℕ, Bool, true, false, true≢false, List, [], ◌∷◌, ◌||◌, inl, inr}
+use Rattle.std.proofs.Common.{◌≡◌, refl, sym, ap, ◌∙◌, ℕ, Bool, false, true≢false, List, [], ◌∷◌, ◌||◌, inl, inr}
 use Rattle.std.proofs.Common.{length, map, Some, None, Ok}
 use Rattle.std.specs.List.{list_any}
 use Rattle.std.specs.Ordering.{eq_by_cmp}

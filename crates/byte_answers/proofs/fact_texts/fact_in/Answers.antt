@@ -1,4 +1,4 @@
-use Rattle.std.proofs.Common.{◌≡◌, ap, arith, ◌∙◌, subst, Option, Result, Some, None, Ok}
+use Rattle.std.proofs.Common.{◌≡◌, ap, arith, ◌∙◌, subst, Option, Result, Some, Ok}
 use Rattle.std.proofs.lemmas.Grind.{common_steps}
 use Rattle.cargo_platform.specs.declared.tokens.Spanned.{Spanned}
 use Rattle.cargo_platform.specs.declared.tokens.TokenFault.{TokenFault}
