@@ -10,15 +10,15 @@ pub of_unclosed : (key : List ℕ) (e : ParseError) (s : List ℕ) → is_unclos
     → s ≡ codes "it begins with `cfg(` and does not end with `)`" → IsKeyReason key e s
 of_unclosed key e s is text = record {
   unclosed = λ _. text;
-  unopened = λ no. absurd (true≢false (sym is ∙ no));
-  placeless = λ no. absurd (true≢false (sym is ∙ no));
-  other = λ no. absurd (true≢false (sym is ∙ no));
+  unopened = λ not_unclosed. absurd (true≢false (sym is ∙ not_unclosed));
+  placeless = λ not_unclosed. absurd (true≢false (sym is ∙ not_unclosed));
+  other = λ not_unclosed. absurd (true≢false (sym is ∙ not_unclosed));
 }
 
 pub of_other : (key : List ℕ) (e : ParseError) (s : List ℕ) → is_unclosed key ≡ false → is_unopened key ≡ false
     → s ≡ error_text e → IsKeyReason key e s
-of_other key e s no not_opened text = record {
-  unclosed = λ is. absurd (true≢false (sym is ∙ no));
+of_other key e s not_unclosed not_opened text = record {
+  unclosed = λ is. absurd (true≢false (sym is ∙ not_unclosed));
   unopened = λ _ is. absurd (true≢false (sym is ∙ not_opened));
   placeless = λ _ is. absurd (true≢false (sym is ∙ not_opened));
   other = λ _ _. text;
@@ -26,8 +26,8 @@ of_other key e s no not_opened text = record {
 
 pub of_unopened : (key : List ℕ) (e : ParseError) (s : List ℕ) (at : Range ℕ) → is_unclosed key ≡ false
     → is_unopened key ≡ true → span_in e ≡ Some at → (IsSpanIn key at → s ≡ unopened_text key at) → IsKeyReason key e s
-of_unopened key e s at no is place text = record {
-  unclosed = λ closed. absurd (true≢false (sym closed ∙ no));
+of_unopened key e s at not_unclosed is place text = record {
+  unclosed = λ closed. absurd (true≢false (sym closed ∙ not_unclosed));
   unopened = λ _ _ other there within.
       let same : at ≡ other = let both : Some at ≡ Some other = sym place ∙ there in cc in
       subst (λ x. IsSpanIn key x → s ≡ unopened_text key x) same text within;
@@ -37,8 +37,8 @@ of_unopened key e s at no is place text = record {
 
 pub of_placeless : (key : List ℕ) (e : ParseError) (s : List ℕ) → is_unclosed key ≡ false → is_unopened key ≡ true
     → span_in e ≡ None → s ≡ error_text e → IsKeyReason key e s
-of_placeless key e s no is place text = record {
-  unclosed = λ closed. absurd (true≢false (sym closed ∙ no));
+of_placeless key e s not_unclosed is place text = record {
+  unclosed = λ closed. absurd (true≢false (sym closed ∙ not_unclosed));
   unopened = λ _ _ at there. let both : None ≡ Some at = sym place ∙ there in absurd (cc);
   placeless = λ _ _ _. text;
   other = λ _ closed. absurd (true≢false (sym is ∙ closed));
