@@ -50,7 +50,7 @@ rt:
 	@command -v rt >/dev/null || { echo "make: rt, Rattle's command, is not on the PATH" >&2; exit 1; }
 
 try: rt
-	@.ci/unproved platform_check manifest_check
+	@.ci/unproved platform_check+manifest_check
 	@echo "these are unproved builds: \`make build\` proves both programs"
 
 # The status is that of the program: 1 if there is an error or a warning.

@@ -10,7 +10,9 @@ import re
 from conditions import Refused, as_line, inside_of_key, read, read_target, shown
 from targets import known_targets
 
-NONE, NAMES = "no target that rustc 1.95.0 knows has", r"(`.*`(?: and \d+ more)?)"
+# The targets: the known ones, those of a file, or the known ones with others that are added.
+TARGETS = r"target (?:that rustc 1\.95\.0 knows|of \S+|of rustc 1\.95\.0 with --target-spec)"
+NONE, NAMES = f"no {TARGETS} has", r"(`.*`(?: and \d+ more)?)"
 FACTS, FEATURES = f"{NONE} {NAMES}", f"no architecture that rustc 1.95.0 knows has {NAMES}"
 UNSTABLE = f"rustc 1.95.0 prints {NAMES} only with unstable features"
 FIELD = "`[^`]*` (?:is not a table(?: of dependencies)?|belongs into .cargo/config.toml)"
@@ -34,7 +36,7 @@ OTHERS = {
     "same": "the same condition as the earlier key `.*`",
     "equivalent": "equivalent to the earlier key `.*`",
     "always": "every set of facts makes the condition true",
-    "everywhere": "the condition is true on every target that rustc 1.95.0 knows",
+    "everywhere": f"the condition is true on every {TARGETS}",
     "not-canonical": "the key is not in canonical form",
     "underscored": "Cargo warns of this name|Cargo rejects this name",
     "misplaced": "Cargo does not read this table|Cargo rejects this package name"
