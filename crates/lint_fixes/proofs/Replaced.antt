@@ -1,6 +1,6 @@
 -- Fixes of keys that a manifest lacks.
 use Rattle.std.proofs.Common.{◌≡◌, ◌⊎◌, ℕ, Bool, true, false, not, cond, ◌||◌, ◌&&◌, List, [], ◌∷◌, ◌++◌, length}
-use Rattle.std.proofs.Common.{All, Contains, Global, Some, Vec, vec_len, ◌==◌, ⊥, arith, refl, true≢false}
+use Rattle.std.proofs.Common.{All, Contains, Global, Some, Vec, vec_len, ◌==◌, arith, refl, true≢false}
 use Rattle.std.proofs.Common.{sym, ap, ◌∙◌, subst, inl, inr}
 use Rattle.std.proofs.lemmas.List.Folds.{list_any_at}
 use Rattle.std.specs.List.{filter, list_all, list_any}
@@ -62,18 +62,18 @@ all_push p (other ∷ fixes) fix h k =
 
 -- a list that is not empty has items
 pub filled : {X : Type 0} (v : Vec X Global) (b : Bool) → b ≡ (vec_len v == 0) → b ≡ false → v.items ≡ [] → ⊥
-filled v b is no none =
+filled v b is filled_it none =
     let zero : vec_len v ≡ 0 = v.ok.0 ∙ ap length none in
     let yes : b ≡ true = is ∙ ap (λ n. n == 0) zero in
-    true≢false (sym yes ∙ no)
+    true≢false (sym yes ∙ filled_it)
 
 -- ---- the table of a text
 
 unmarked_once : (text a b : List ℕ) → IsUnmarked text a → IsUnmarked text b → a ≡ b
 unmarked_once text a b (inl p) (inl q) = cc
-unmarked_once text a b (inl p) (inr (no, q)) = absurd (no a p)
-unmarked_once text a b (inr (no, p)) (inl q) = absurd (no b q)
-unmarked_once text a b (inr (no, p)) (inr (so, q)) = p ∙ sym q
+unmarked_once text a b (inl p) (inr (without, q)) = absurd (without a p)
+unmarked_once text a b (inr (without, p)) (inl q) = absurd (without b q)
+unmarked_once text a b (inr (without, p)) (inr (so, q)) = p ∙ sym q
 
 some_once : (a b : Members) → Some a ≡ Some b → a ≡ b
 some_once a b h = cc

@@ -44,7 +44,7 @@ loop-fix-preserved c =
     )
 
 pub returns-clause-among : goal.returns-clause-among
-returns-clause-among c = c.loop-fix.invariant.2.0
+returns-clause-among c = c.loop-fix.invariant.2
 
 pub returns-clause-found : goal.returns-clause-found
 returns-clause-found c = c.loop-fix.invariant.3
