@@ -6,7 +6,7 @@ pub mod SetWords
 pub mod Rows
 pub mod Samples
 pub mod Numbers
-pub mod Categories
+pub mod Classes
 pub mod Reports
 pub mod Lengths
 pub mod Rustcs
