@@ -6,7 +6,7 @@ use Rattle.cargo_platform.specs.Trees.{Condition, value_of, tree_of}
 use Rattle.cargo_platform.specs.Platforms.{IsConditionText}
 use Rattle.cargo_platform.specs.Facts.{IsTrueCondition, FactSet, truth}
 use Rattle.partial_facts.specs.declared.one_valued.TheConstants.{ONE_VALUED}
-use Rattle.exact_answers.specs.declared.known.Known.{Known}
+use Rattle.exact_answers.specs.declared.fact_constraints.FactConstraints.{FactConstraints}
 use Rattle.exact_answers.specs.declared.platforms.PossibleTarget.{PossibleTarget}
 use Rattle.exact_answers.specs.Asking.{NeedsMore}
 use Rattle.exact_answers.specs.Families.{KeepsFamilyRule}
@@ -18,7 +18,7 @@ use Rattle.byte_answers.specs.Counted.{counted, counted_facts}
 use Rattle.byte_answers.specs.Outcomes.{IsWritten}
 
 -- no fact is known, and the possible sets keep rustc's rules: one value for the keys that have one, and families
-pub record KnowsOnlyRules (k : Known) : Type 0 where
+pub record KnowsOnlyRules (k : FactConstraints) : Type 0 where
   pub facts : k.facts.now ≡ []
   pub complete : k.complete.now ≡ []
   pub single : map (λ t. t.now) k.single.now ≡ map (λ t. t.now) ONE_VALUED.now
@@ -52,17 +52,17 @@ IsWrittenExample t o old new =
     × IsWritten (counted_name t.name ++ counted_facts (map value_of t.facts.items)) o.needed old new
 
 -- P holds for a target that is possible, and that is written to the buffer
-abbrev pub HasExample : Known → List Condition → (List ℕ → FactSet → Type 0) → Outcome → List ℕ → List ℕ → Type 0
+abbrev pub HasExample : FactConstraints → List Condition → (List ℕ → FactSet → Type 0) → Outcome → List ℕ → List ℕ → Type 0
 HasExample k cs P o old new = (t : PossibleTarget) × (IsExample t k cs P × IsWrittenExample t o old new)
 
 -- the budget is too small for a search on these conditions
 abbrev pub NeedsLarger : List Condition → ℕ → Type 0
-NeedsLarger cs budget = (k : Known) × (KnowsOnlyRules k × NeedsMore k (asked_trees cs) budget)
+NeedsLarger cs budget = (k : FactConstraints) × (KnowsOnlyRules k × NeedsMore k (asked_trees cs) budget)
 
 -- for two conditions: yes means that it is so on each possible target, and no has a counterexample
 abbrev pub SaysRelated : Relation → Condition → Condition → Outcome → List ℕ → List ℕ → Type 0
 SaysRelated r p q o old new =
-    (k : Known) × (KnowsOnlyRules k
+    (k : FactConstraints) × (KnowsOnlyRules k
     × (o.holds ≡ true → ForEach k (λ name s. Stands r (IsTrueCondition name s p) (IsTrueCondition name s q)))
     × (o.holds ≡ false
     → HasExample k (p ∷ q ∷ []) (λ name s. Fails r (IsTrueCondition name s p) (IsTrueCondition name s q)) o old new))
@@ -75,7 +75,7 @@ AreRelated r a b o old new =
 -- for one condition: yes has an example, and no means that it is so on each possible target
 abbrev pub SaysPossible : Condition → Outcome → List ℕ → List ℕ → Type 0
 SaysPossible p o old new =
-    (k : Known) × (KnowsOnlyRules k
+    (k : FactConstraints) × (KnowsOnlyRules k
     × (o.holds ≡ true → HasExample k (p ∷ []) (λ name s. IsTrueCondition name s p) o old new)
     × (o.holds ≡ false → ForEach k (λ name s. IsTrueCondition name s p → ⊥)))
 

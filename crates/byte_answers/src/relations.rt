@@ -20,7 +20,7 @@ use crate::outcome::{DONE, NO_MEMORY, NOT_UTF8, Outcome, REFUSED, TOO_DEEP, UNDE
 use crate::reading::read_condition;
 use cargo_platform::{CfgExpr, Platform};
 use exact_answers::{
-    CanSelect, Known, MustSelect, ONE_VALUED, PossibleTarget, can_hold_platform,
+    CanSelect, FactConstraints, MustSelect, ONE_VALUED, PossibleTarget, can_hold_platform,
     equivalent_platform, exclude_platform, family_rule, implies_platform,
 };
 use std::alloc::{AllocError, Global};
@@ -79,7 +79,7 @@ fn ask<'a>(
     relation: Relation,
     a: &'a Platform,
     b: &'a Platform,
-    known: &'a Known<'a>,
+    known: &'a FactConstraints<'a>,
     budget: u64,
 ) -> Result<MustSelect, AllocError>
     ensures { IfOk result (λ r. SaysMustSelect r known.now (condition_of a.now ∷ condition_of b.now ∷ []) budget
@@ -101,7 +101,7 @@ fn related_by<'a>(
     relation: Relation,
     a: &'a Platform,
     b: &'a Platform,
-    known: &'a Known<'a>,
+    known: &'a FactConstraints<'a>,
     budget: u64,
     out: &mut [u8],
 ) -> Outcome
@@ -159,13 +159,13 @@ fn related(
 }
 
 /// Returns what is known if only rustc's rules are.
-fn rules_alone(rule: &CfgExpr) -> Known<'_>
+fn rules_alone(rule: &CfgExpr) -> FactConstraints<'_>
     ensures facts { result.facts.now ≡ [] }
     ensures complete { result.complete.now ≡ [] }
     ensures single { map (λ t. t.now) result.single.now ≡ map (λ t. t.now) ONE_VALUED.now }
     ensures assumed { result.assumed.now ≡ rule.now }
 {
-    Known {
+    FactConstraints {
         facts: &[],
         complete: &[],
         single: ONE_VALUED,
@@ -236,7 +236,7 @@ pub fn relates(
 fn possible_by<'a>(
     alloc: Global,
     platform: &'a Platform,
-    known: &'a Known<'a>,
+    known: &'a FactConstraints<'a>,
     budget: u64,
     out: &mut [u8],
 ) -> Outcome

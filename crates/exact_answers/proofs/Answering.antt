@@ -6,7 +6,7 @@ use Rattle.cargo_platform.specs.Trees.{CfgValue, Tree, Trees, none, tree, tree_o
 use Rattle.cargo_platform.specs.Facts.{FactSet, pair_of, fact_set, truth}
 use Rattle.cargo_platform.specs.declared.cfg.CfgExpr.{CfgExpr}
 use Rattle.exact_answers.specs.Goals.{true_as_wanted, goals_met}
-use Rattle.exact_answers.specs.declared.known.Known.{Known}
+use Rattle.exact_answers.specs.declared.fact_constraints.FactConstraints.{FactConstraints}
 use Rattle.exact_answers.specs.declared.goal_diagrams.making.Goal.{Goal}
 use Rattle.exact_answers.specs.declared.search.Found.{Found}
 use Rattle.exact_answers.specs.declared.search.Found.TheVariants as found
@@ -17,11 +17,11 @@ use Rattle.exact_answers.specs.Inside.Searches.{goal_trees, SaysFound, Searched,
 use Rattle.exact_answers.specs.Inside.Searches.{MayBeFound}
 use Rattle.exact_answers.specs.Answers.{IsFactOfExample, AreExample}
 
-allowed : (k : Known) (s : FactSet) → IsOver (base_of k) s → truth s (tree_of k.assumed.now) ≡ true → IsAllowed k s
+allowed : (k : FactConstraints) (s : FactSet) → IsOver (base_of k) s → truth s (tree_of k.assumed.now) ≡ true → IsAllowed k s
 allowed k s over h =
     record { partly_known = over.partly_known; one_value = over.one_value; assumed_true = h }
 
-over_of : (k : Known) (s : FactSet) → IsAllowed k s → IsOver (base_of k) s
+over_of : (k : FactConstraints) (s : FactSet) → IsAllowed k s → IsOver (base_of k) s
 over_of k s is = record { partly_known = is.partly_known; one_value = is.one_value }
 
 met : (w t : Bool) → true_as_wanted w t ≡ true → t ≡ w
@@ -47,7 +47,7 @@ last_false : (a : Bool) → (a && true) ≡ false → a ≡ false
 last_false true h = h
 last_false false h = refl
 
-pub any_says : (k : Known) (gs : List Goal) (budget : ℕ) (es : Trees) (r : Found)
+pub any_says : (k : FactConstraints) (gs : List Goal) (budget : ℕ) (es : Trees) (r : Found)
     → (NeedsMoreOn (base_of k) (goal_trees gs) budget → NeedsMore k es budget)
     → ((c : CfgValue) → MayBeFound (base_of k) (goal_trees gs) c → IsFactOfExample k es c)
     → ((s : FactSet) → goals_met s gs ≡ (truth s (tree_of k.assumed.now) && true))
@@ -59,7 +59,7 @@ any_says k gs budget es found.Nothing more each is h =
     λ s allows. true≢false (sym allows.assumed_true ∙ last_false _ (sym (is s) ∙ h s (over_of k s allows)))
 any_says k gs budget es found.Undecided more each is h = more h
 
-pub one_says : (k : Known) (e : CfgExpr) (w : Bool) (gs : List Goal) (budget : ℕ) (es : Trees) (r : Found)
+pub one_says : (k : FactConstraints) (e : CfgExpr) (w : Bool) (gs : List Goal) (budget : ℕ) (es : Trees) (r : Found)
     → (NeedsMoreOn (base_of k) (goal_trees gs) budget → NeedsMore k es budget)
     → ((c : CfgValue) → MayBeFound (base_of k) (goal_trees gs) c → IsFactOfExample k es c)
     → ((s : FactSet) → goals_met s gs
@@ -75,7 +75,7 @@ one_says k e w gs budget es found.Nothing more each is h =
     (last_false _ (rest_false _ _ (sym (is s) ∙ h s (over_of k s allows)) allows.assumed_true))
 one_says k e w gs budget es found.Undecided more each is h = more h
 
-pub both_say : (k : Known) (a b : CfgExpr) (v w : Bool) (gs : List Goal) (budget : ℕ) (es : Trees) (r : Found)
+pub both_say : (k : FactConstraints) (a b : CfgExpr) (v w : Bool) (gs : List Goal) (budget : ℕ) (es : Trees) (r : Found)
     → (NeedsMoreOn (base_of k) (goal_trees gs) budget → NeedsMore k es budget)
     → ((c : CfgValue) → MayBeFound (base_of k) (goal_trees gs) c → IsFactOfExample k es c)
     → ((s : FactSet) → goals_met s gs
@@ -116,14 +116,14 @@ swapped false false false true = refl
 swapped false false false false = refl
 
 -- an example of the one implication, or of the other
-pub one_example : (k : Known) (a b : CfgExpr) (facts : List CfgValue)
+pub one_example : (k : FactConstraints) (a b : CfgExpr) (facts : List CfgValue)
     → AreExample k (tree (tree_of a) (tree (tree_of b) none))
     (λ s. (truth s (tree_of a) ≡ true) × (truth s (tree_of b) ≡ false)) facts
     → AreExample k (tree (tree_of a) (tree (tree_of b) none)) (λ s. truth s (tree_of a) ≡ not (truth s (tree_of b)))
     facts
 one_example k a b facts h = (h.0, (one_way _ _ h.1.0.0 h.1.0.1, h.1.1))
 
-swapped_fact : (k : Known) (a b : Tree) (c : CfgValue) → IsFactOfExample k (tree b (tree a none)) c
+swapped_fact : (k : FactConstraints) (a b : Tree) (c : CfgValue) → IsFactOfExample k (tree b (tree a none)) c
     → IsFactOfExample k (tree a (tree b none)) c
 swapped_fact k a b c h = (
   h.0,
@@ -131,7 +131,7 @@ swapped_fact k a b c h = (
       (asks a (pair_of c)) (asks b (pair_of c)) ∙ h.1,
 )
 
-pub other_example : (k : Known) (a b : CfgExpr) (facts : List CfgValue)
+pub other_example : (k : FactConstraints) (a b : CfgExpr) (facts : List CfgValue)
     → AreExample k (tree (tree_of b) (tree (tree_of a) none))
     (λ s. (truth s (tree_of b) ≡ true) × (truth s (tree_of a) ≡ false)) facts
     → AreExample k (tree (tree_of a) (tree (tree_of b) none)) (λ s. truth s (tree_of a) ≡ not (truth s (tree_of b)))

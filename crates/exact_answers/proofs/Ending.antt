@@ -12,7 +12,7 @@ use Rattle.exact_answers.specs.declared.goal_diagrams.answers.Outcome.TheVariant
 use Rattle.exact_answers.specs.Goals.{goals_met, HasOneOpenValue, SaysOutcome, IsAsTold}
 use Rattle.exact_answers.specs.declared.diagram.End.{End}
 use Rattle.exact_answers.specs.declared.diagram.End.TheVariants as end
-use Rattle.exact_answers.specs.declared.known.Known.{Known}
+use Rattle.exact_answers.specs.declared.fact_constraints.FactConstraints.{FactConstraints}
 use Rattle.exact_answers.specs.declared.path.Path.{Path}
 use Rattle.exact_answers.specs.declared.search.Step.{Step}
 use Rattle.exact_answers.specs.declared.search.Step.TheVariants as step
@@ -32,7 +32,7 @@ not_listed false n h is = true≢false (sym is)
 
 -- ---- nothing is found by a diagram that begins with no splits
 
-pub missed : (p : Path) (k : Known) (gs : List Goal) (ps : List Pair) (r : Outcome) → p.known.now ≡ k
+pub missed : (p : Path) (k : FactConstraints) (gs : List Goal) (ps : List Pair) (r : Outcome) → p.known.now ≡ k
     → turns p ≡ []
     → ((s : FactSet) → IsAsTold (told_by_path p) s → HasOneOpenValue (told_by_path p) (names_of k.single.now) s
     → SaysOutcome r s ps (goals_met s gs))
@@ -55,14 +55,14 @@ pub both_on_ok : {T E P Q S : Type 0} (r : Result T E) → OnOk r P → OnOk r Q
 both_on_ok (Ok x) p q f = f p q
 both_on_ok (Err e) p q f = tt
 
-pub fresh_path : (p : Path) (k : Known) (es : Trees) → p.known.now ≡ k → turns p ≡ [] → IsPathOf p k es
+pub fresh_path : (p : Path) (k : FactConstraints) (es : Trees) → p.known.now ≡ k → turns p ≡ [] → IsPathOf p k es
 fresh_path p k es is none = record {
   known = is;
   were_open = subst (WereOpen (base_of k)) (sym none) tt;
   asked = subst (AreAsked es) (sym none) tt;
 }
 
-pub taken_path : (p q : Path) (k : Known) (es : Trees) (at : Pair) → q.known.now ≡ p.known.now
+pub taken_path : (p q : Path) (k : FactConstraints) (es : Trees) (at : Pair) → q.known.now ≡ p.known.now
     → (WereOpen (base_of p.known.now) (turns p) → WereOpen (base_of p.known.now) (turns q))
     → ((es : Trees) → some_asks es at ≡ true → AreAsked es (turns p) → AreAsked es (turns q))
     → some_asks es at ≡ true → IsPathOf p k es → IsPathOf q k es
@@ -75,7 +75,7 @@ taken_path p q k es at is kept asked here way = record {
 }
 
 -- the goals are met on it
-pub met_on : (p : Path) (k : Known) (gs : List Goal) (st : Step) (b : Bool) → IsPathOf p k (goal_trees gs)
+pub met_on : (p : Path) (k : FactConstraints) (gs : List Goal) (st : Step) (b : Bool) → IsPathOf p k (goal_trees gs)
     → SaysStep st (told_by_path p) gs → st ≡ step.Decided b → b ≡ true → SaysEnd (end.Met p) k gs
 met_on p k gs st b way says is holds =
     let known : goals_known (told_by_path p) gs ≡ Some true =
@@ -88,7 +88,7 @@ met_on p k gs st b way says is holds =
 
 -- ---- the end
 
-pub met_found : (e : End) (p : Path) (k : Known) (gs : List Goal) (facts : List CfgValue) → e ≡ end.Met p
+pub met_found : (e : End) (p : Path) (k : FactConstraints) (gs : List Goal) (facts : List CfgValue) → e ≡ end.Met p
     → SaysEnd e k gs → map pair_of facts ≡ facts_on (base_of k) (turns p) → All IsUnmarked facts
     → IsOver (base_of k) (fact_set facts)
     × ((goals_met (fact_set facts) gs ≡ true) × All (MayBeFound (base_of k) (goal_trees gs)) facts)
@@ -97,7 +97,7 @@ met_found e p k gs facts is says pairs unmarked =
     let found = found_facts k k (turns p) facts gs refl pairs way.0.were_open way.1 in
     (found.0, (found.1, may_be_found (base_of k) (goal_trees gs) (turns p) facts way.0.asked pairs unmarked))
 
-pub missed_by : (e : End) (k : Known) (gs : List Goal) → e ≡ end.Missed → SaysEnd e k gs
+pub missed_by : (e : End) (k : FactConstraints) (gs : List Goal) → e ≡ end.Missed → SaysEnd e k gs
     → (s : FactSet) → IsOver (base_of k) s → goals_met s gs ≡ false
 missed_by e k gs is says s over =
     let none : AreMissed (base_of k) gs [] = subst (λ e. SaysEnd e k gs) is says in none s over tt

@@ -11,7 +11,7 @@ use Rattle.cargo_platform.specs.Spelling.{MayStand}
 use Rattle.cargo_platform.specs.Print.{print}
 use Rattle.cargo_platform.specs.WellFormed.{IsWellFormed}
 use Rattle.exact_answers.specs.Families.{IsSetWithFamily, KeepsFamilyRule}
-use Rattle.exact_answers.specs.declared.known.TheConstants.{FAMILY_RULE}
+use Rattle.exact_answers.specs.declared.fact_constraints.TheConstants.{FAMILY_RULE}
 
 abbrev plain : List ℕ → Name
 plain text = record { raw = false; name = text }

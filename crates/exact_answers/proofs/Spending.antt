@@ -15,7 +15,7 @@ use Rattle.exact_answers.specs.Inside.Paths.{Turn, Base, takes, refuses, facts_o
 use Rattle.exact_answers.specs.Inside.Paths.{rules_out, is_refuted, told_on, WereOpen, turned, base_of}
 use Rattle.exact_answers.specs.Asking.{is_pair, asks, some_asks, one_if, open_count, HasAll, NeedsMore}
 use Rattle.exact_answers.specs.Inside.Searches.{open_on, AreAsked, NeedsMoreOn}
-use Rattle.exact_answers.specs.declared.known.Known.{Known}
+use Rattle.exact_answers.specs.declared.fact_constraints.FactConstraints.{FactConstraints}
 use Rattle.exact_answers.proofs.Telling.{or_cases, same, itself, any_on, on_path, or_true}
 
 -- ---- more is told on a longer path
@@ -271,7 +271,7 @@ none_told false false = refl
 both_ones : (a b : Bool) (m n : ℕ) → a ≡ b → m ≡ n → one_if a + m ≡ one_if b + n
 both_ones a b m n h k = ap (λ x. one_if x + m) h ∙ ap (λ x. one_if b + x) k
 
-open_count_on : (k : Known) (ps : List Pair) → open_on (base_of k) [] ps ≡ open_count k ps
+open_count_on : (k : FactConstraints) (ps : List Pair) → open_on (base_of k) [] ps ≡ open_count k ps
 open_count_on k [] = refl
 open_count_on k (p ∷ ps) =
     both_ones (is_none (told_on (base_of k) [] p)) (is_open k p) (open_on (base_of k) [] ps) (open_count k ps)
@@ -283,12 +283,12 @@ swapped false true b h = refl
 swapped false false true h = refl
 swapped false false false h = h
 
-pub needs_more_by : (k : Known) (es : Trees) (budget : ℕ)
+pub needs_more_by : (k : FactConstraints) (es : Trees) (budget : ℕ)
     → NeedsMoreOn (base_of k) (tree (tree_of k.assumed.now) es) budget → NeedsMore k es budget
 needs_more_by k es budget h = λ ps all. subst (λ n. budget + 1 < 2 ^ n) (open_count_on k ps) (h ps all)
 
 -- the order of two expressions does not matter
-pub other_order : (k : Known) (a b : Tree) (budget : ℕ) → NeedsMore k (tree b (tree a none)) budget
+pub other_order : (k : FactConstraints) (a b : Tree) (budget : ℕ) → NeedsMore k (tree b (tree a none)) budget
     → NeedsMore k (tree a (tree b none)) budget
 other_order k a b budget h = λ ps all.
     h ps (λ p is. all p (swapped (asks (tree_of k.assumed.now) p) (asks a p) (asks b p) is))

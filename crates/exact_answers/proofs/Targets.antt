@@ -17,7 +17,7 @@ use Rattle.exact_answers.specs.Inside.Searches.{SaysFound}
 use Rattle.exact_answers.specs.Inside.Targets.{tree_under, is_name_of, Wanted, wants, conditions, MetUnder}
 use Rattle.exact_answers.specs.Inside.Targets.{MissedUnder, SaysFoundUnder, with_name, or_undecided, as_can, as_must}
 use Rattle.exact_answers.specs.Inside.Targets.{SaysTarget}
-use Rattle.exact_answers.specs.declared.known.Known.{Known}
+use Rattle.exact_answers.specs.declared.fact_constraints.FactConstraints.{FactConstraints}
 use Rattle.exact_answers.specs.declared.search.Found.{Found}
 use Rattle.exact_answers.specs.declared.search.Found.TheVariants as found
 use Rattle.exact_answers.specs.declared.platforms.FoundTarget.{FoundTarget}
@@ -195,14 +195,14 @@ one_name None (Target own) name h = h
 one_name None (Expression e) name h = h
 
 -- what holds for an example, by what it was looked for
-example_by : (t : PossibleTarget) (k : Known) (cs ds : List Condition) (P Q : List ℕ → FactSet → Type 0)
+example_by : (t : PossibleTarget) (k : FactConstraints) (cs ds : List Condition) (P Q : List ℕ → FactSet → Type 0)
     → ((name : List ℕ) → MayHaveName t.name ds name → MayHaveName t.name cs name)
     → ((c : CfgValue) → IsFactOfExample k (asked_trees cs) c → IsFactOfExample k (asked_trees ds) c)
     → ((name : List ℕ) (s : FactSet) → P name s → Q name s) → IsExample t k cs P → IsExample t k ds Q
 example_by t k cs ds P Q may each f h =
     (h.0, (λ name is. f name _ (h.1.0 name (may name is)), λ i d short. each _ (h.1.1 i d short)))
 
-pub can_says : (k : Known) (c : Condition) (budget : ℕ) (r : FoundTarget)
+pub can_says : (k : FactConstraints) (c : Condition) (budget : ℕ) (r : FoundTarget)
     → SaysTarget r (wants k c true (Expression True) true) (λ name. Unit {0}) budget
     → SaysCanSelect (as_can r) k (c ∷ []) budget (λ name s. IsTrueCondition name s c)
     (λ name s. IsTrueCondition name s c → ⊥)
@@ -215,7 +215,7 @@ can_says k c budget one.Nothing h = λ name s allows is.
     true≢false (h name tt s allows (true_is c name s is))
 can_says k c budget one.Undecided h = h
 
-pub always_says : (k : Known) (c : Condition) (budget : ℕ) (r : FoundTarget)
+pub always_says : (k : FactConstraints) (c : Condition) (budget : ℕ) (r : FoundTarget)
     → SaysTarget r (wants k c false (Expression True) true) (λ name. Unit {0}) budget
     → SaysMustSelect (as_must r) k (c ∷ []) budget (λ name s. IsTrueCondition name s c → ⊥)
     (λ name s. IsTrueCondition name s c)
@@ -229,7 +229,7 @@ always_says k c budget one.Nothing h = λ name s allows.
     (λ no. absurd (true≢false (h name tt s allows no)))
 always_says k c budget one.Undecided h = h
 
-pub implies_says : (k : Known) (a b : Condition) (budget : ℕ) (r : FoundTarget)
+pub implies_says : (k : FactConstraints) (a b : Condition) (budget : ℕ) (r : FoundTarget)
     → SaysTarget r (wants k a true b false) (λ name. Unit {0}) budget
     → SaysMustSelect (as_must r) k (a ∷ b ∷ []) budget
     (λ name s. IsTrueCondition name s a × (IsTrueCondition name s b → ⊥))
@@ -242,7 +242,7 @@ implies_says k a b budget one.Nothing h = λ name s allows first.
     is_true b name s (h name tt s allows (true_is a name s first))
 implies_says k a b budget one.Undecided h = h
 
-pub exclude_says : (k : Known) (a b : Condition) (budget : ℕ) (r : FoundTarget)
+pub exclude_says : (k : FactConstraints) (a b : Condition) (budget : ℕ) (r : FoundTarget)
     → SaysTarget r (wants k a true b true) (λ name. Unit {0}) budget
     → SaysMustSelect (as_must r) k (a ∷ b ∷ []) budget
     (λ name s. IsTrueCondition name s a × IsTrueCondition name s b)
@@ -264,7 +264,7 @@ Differs a b name s = (IsTrueCondition name s a ↔ IsTrueCondition name s b) →
 abbrev pub IsSame : Condition → Condition → List ℕ → FactSet → Type 0
 IsSame a b name s = IsTrueCondition name s a ↔ IsTrueCondition name s b
 
-pub first_differs : (k : Known) (a b : Condition) (t : PossibleTarget)
+pub first_differs : (k : FactConstraints) (a b : Condition) (t : PossibleTarget)
     → IsExample t k (a ∷ b ∷ []) (λ name s. MetUnder (wants k a true b false) (Some name) s)
     → IsExample t k (a ∷ b ∷ []) (λ name s. Differs a b name s)
 first_differs k a b t h =
@@ -272,7 +272,7 @@ first_differs k a b t h =
     (λ name s. Differs a b name s) (λ name is. is) (λ c is. is)
     (λ name s met both. is_untrue b name s met.1 (both.0 (is_true a name s met.0))) h
 
-pub second_differs : (k : Known) (a b : Condition) (t : PossibleTarget)
+pub second_differs : (k : FactConstraints) (a b : Condition) (t : PossibleTarget)
     → IsExample t k (a ∷ b ∷ []) (λ name s. MetUnder (wants k a false b true) (Some name) s)
     → IsExample t k (a ∷ b ∷ []) (λ name s. Differs a b name s)
 second_differs k a b t h =
@@ -280,7 +280,7 @@ second_differs k a b t h =
     (λ name s. Differs a b name s) (λ name is. is) (λ c is. is)
     (λ name s met both. is_untrue a name s met.0 (both.1 (is_true b name s met.1))) h
 
-pub second_says : (k : Known) (a b : Condition) (budget : ℕ) (r : FoundTarget)
+pub second_says : (k : FactConstraints) (a b : Condition) (budget : ℕ) (r : FoundTarget)
     → ((name : List ℕ) → Unit {0} → OverEach k (λ s. MissedUnder (wants k a true b false) (Some name) s))
     → SaysTarget r (wants k a false b true) (λ name. Unit {0}) budget
     → SaysMustSelect (as_must r) k (a ∷ b ∷ []) budget (λ name s. Differs a b name s) (λ name s. IsSame a b name s)
@@ -292,7 +292,7 @@ second_says k a b budget one.Nothing first h = λ name s allows. (
 )
 second_says k a b budget one.Undecided first h = h
 
-pub undecided_second : (k : Known) (a b : Condition) (budget : ℕ) (r : FoundTarget)
+pub undecided_second : (k : FactConstraints) (a b : Condition) (budget : ℕ) (r : FoundTarget)
     → NeedsMore k (asked_trees (a ∷ b ∷ [])) budget
     → SaysTarget r (wants k a false b true) (λ name. Unit {0}) budget
     → SaysMustSelect (as_must (or_undecided r)) k (a ∷ b ∷ []) budget (λ name s. Differs a b name s)
@@ -303,12 +303,12 @@ undecided_second k a b budget one.Undecided more h = more
 
 -- ---- the answer as the program makes it
 
-pub can_by : (m : CanSelect) (r : FoundTarget) (k : Known) (cs : List Condition) (budget : ℕ)
+pub can_by : (m : CanSelect) (r : FoundTarget) (k : FactConstraints) (cs : List Condition) (budget : ℕ)
     (P Q : List ℕ → FactSet → Type 0) → m ≡ as_can r → SaysCanSelect (as_can r) k cs budget P Q
     → SaysCanSelect m k cs budget P Q
 can_by m r k cs budget P Q e h = subst (λ x. SaysCanSelect x k cs budget P Q) (sym e) h
 
-pub must_by : (m : MustSelect) (r : FoundTarget) (k : Known) (cs : List Condition) (budget : ℕ)
+pub must_by : (m : MustSelect) (r : FoundTarget) (k : FactConstraints) (cs : List Condition) (budget : ℕ)
     (P Q : List ℕ → FactSet → Type 0) → m ≡ as_must r → SaysMustSelect (as_must r) k cs budget P Q
     → SaysMustSelect m k cs budget P Q
 must_by m r k cs budget P Q e h = subst (λ x. SaysMustSelect x k cs budget P Q) (sym e) h

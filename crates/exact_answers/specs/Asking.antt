@@ -5,7 +5,7 @@ use Rattle.std.specs.Ordering.{eq_by_cmp}
 use Rattle.cargo_platform.specs.Trees.{Tree, Not, All, Any, Value, True, False, Trees, none, tree, tree_of}
 use Rattle.cargo_platform.specs.Facts.{Pair, pair_of, pair_cmp}
 use Rattle.exact_answers.specs.Possible.{is_open}
-use Rattle.exact_answers.specs.declared.known.Known.{Known}
+use Rattle.exact_answers.specs.declared.fact_constraints.FactConstraints.{FactConstraints}
 
 abbrev pub is_pair : Pair → Pair → Bool
 is_pair p = eq_by_cmp pair_cmp p
@@ -29,7 +29,7 @@ one_if true = 1
 one_if false = 0
 
 -- how many of the pairs are open
-abbrev pub open_count : Known → List Pair → ℕ
+abbrev pub open_count : FactConstraints → List Pair → ℕ
 open_count k [] = 0
 open_count k (p ∷ ps) = one_if (is_open k p) + open_count k ps
 
@@ -39,6 +39,6 @@ HasAll es ps = (p : Pair) → some_asks es p ≡ true → list_any (is_pair p) p
 
 -- a budget that is too small: whichever list has all pairs of the question and of what is assumed, where n of the list
 -- are open, the budget is less than 2 ^ n - 1
-abbrev pub NeedsMore : Known → Trees → ℕ → Type 0
+abbrev pub NeedsMore : FactConstraints → Trees → ℕ → Type 0
 NeedsMore k es budget =
     (ps : List Pair) → HasAll (tree (tree_of k.assumed.now) es) ps → budget + 1 < 2 ^ open_count k ps

@@ -5,7 +5,7 @@ use Rattle.cargo_platform.specs.Trees.{Tree, True, Trees, none, tree, Condition,
 use Rattle.cargo_platform.specs.Facts.{FactSet}
 use Rattle.exact_answers.specs.Asking.{NeedsMore}
 use Rattle.exact_answers.specs.Answers.{AreExample, OverEach}
-use Rattle.exact_answers.specs.declared.known.Known.{Known}
+use Rattle.exact_answers.specs.declared.fact_constraints.FactConstraints.{FactConstraints}
 use Rattle.exact_answers.specs.declared.platforms.PossibleTarget.{PossibleTarget}
 use Rattle.exact_answers.specs.declared.platforms.CanSelect.{CanSelect}
 use Rattle.exact_answers.specs.declared.platforms.CanSelect.TheVariants as can
@@ -33,18 +33,18 @@ asked_trees [] = none
 asked_trees (c ∷ cs) = tree (asked_tree c) (asked_trees cs)
 
 -- an example of a target on the conditions cs: P holds for it by each name that it may have
-abbrev pub IsExample : PossibleTarget → Known → List Condition → (List ℕ → FactSet → Type 0) → Type 0
+abbrev pub IsExample : PossibleTarget → FactConstraints → List Condition → (List ℕ → FactSet → Type 0) → Type 0
 IsExample t k cs P =
     AreExample k (asked_trees cs) (λ s. (name : List ℕ) → MayHaveName t.name cs name → P name s)
     (map value_of t.facts.items)
 
 -- Q holds for each possible target: by each name, over each possible set
-abbrev pub ForEach : Known → (List ℕ → FactSet → Type 0) → Type 0
+abbrev pub ForEach : FactConstraints → (List ℕ → FactSet → Type 0) → Type 0
 ForEach k Q = (name : List ℕ) → OverEach k (λ s. Q name s)
 
 -- an answer on the conditions cs: P holds for the example; where there is none, Q holds for each possible target; or
 -- the budget is too small
-abbrev pub SaysCanSelect : CanSelect → Known → List Condition → ℕ → (List ℕ → FactSet → Type 0)
+abbrev pub SaysCanSelect : CanSelect → FactConstraints → List Condition → ℕ → (List ℕ → FactSet → Type 0)
     → (List ℕ → FactSet → Type 0) → Type 0
 SaysCanSelect (can.Yes t) k cs budget P Q = IsExample t k cs P
 SaysCanSelect can.No k cs budget P Q = ForEach k Q
@@ -52,7 +52,7 @@ SaysCanSelect can.Undecided k cs budget P Q = NeedsMore k (asked_trees cs) budge
 
 -- an answer on the conditions cs: P holds for the counterexample; where there is none, Q holds for each possible
 -- target; or the budget is too small
-abbrev pub SaysMustSelect : MustSelect → Known → List Condition → ℕ → (List ℕ → FactSet → Type 0)
+abbrev pub SaysMustSelect : MustSelect → FactConstraints → List Condition → ℕ → (List ℕ → FactSet → Type 0)
     → (List ℕ → FactSet → Type 0) → Type 0
 SaysMustSelect must.Yes k cs budget P Q = ForEach k Q
 SaysMustSelect (must.No t) k cs budget P Q = IsExample t k cs P

@@ -8,7 +8,7 @@ ghost use Rattle.exact_answers.specs.Inside.Searches.{SaysFound};
 
 use crate::assuming::search_assuming;
 use crate::goal_diagrams::Goal;
-use crate::known::Known;
+use crate::fact_constraints::FactConstraints;
 use crate::path::Path;
 use crate::search::{Found, search};
 use cargo_platform::{Cfg, CfgExpr};
@@ -41,7 +41,7 @@ pub enum MustHold {
 /// `always`, `implies`, `exclude` and `equivalent` return `Yes`.
 pub fn can_be_met<'a>(
     alloc: Global,
-    known: &'a Known<'a>,
+    known: &'a FactConstraints<'a>,
     budget: u64,
 ) -> Result<CanHold, AllocError>
     // `Yes` has a possible set of facts. With `No`, no set is possible.
@@ -61,7 +61,7 @@ pub fn can_be_met<'a>(
 pub fn can_hold<'a>(
     alloc: Global,
     e: &'a CfgExpr,
-    known: &'a Known<'a>,
+    known: &'a FactConstraints<'a>,
     budget: u64,
 ) -> Result<CanHold, AllocError>
     // With `Yes`, the expression is true over the example, which is possible. With `No`, it is false over each possible
@@ -84,7 +84,7 @@ pub fn can_hold<'a>(
 pub fn always<'a>(
     alloc: Global,
     e: &'a CfgExpr,
-    known: &'a Known<'a>,
+    known: &'a FactConstraints<'a>,
     budget: u64,
 ) -> Result<MustHold, AllocError>
     // With `Yes`, it is so over each possible set of facts. With `No`, it is not so over the example, which is
@@ -108,7 +108,7 @@ pub fn implies<'a>(
     alloc: Global,
     a: &'a CfgExpr,
     b: &'a CfgExpr,
-    known: &'a Known<'a>,
+    known: &'a FactConstraints<'a>,
     budget: u64,
 ) -> Result<MustHold, AllocError>
     // With `Yes`, it is so over each possible set of facts. With `No`, it is not so over the example, which is
@@ -132,7 +132,7 @@ pub fn exclude<'a>(
     alloc: Global,
     a: &'a CfgExpr,
     b: &'a CfgExpr,
-    known: &'a Known<'a>,
+    known: &'a FactConstraints<'a>,
     budget: u64,
 ) -> Result<MustHold, AllocError>
     // With `Yes`, it is so over each possible set of facts. With `No`, it is not so over the example, which is
@@ -158,7 +158,7 @@ pub fn equivalent<'a>(
     alloc: Global,
     a: &'a CfgExpr,
     b: &'a CfgExpr,
-    known: &'a Known<'a>,
+    known: &'a FactConstraints<'a>,
     budget: u64,
 ) -> Result<MustHold, AllocError>
     // With `Yes`, it is so over each possible set of facts. With `No`, it is not so over the example, which is
@@ -185,7 +185,7 @@ pub fn equivalent<'a>(
 }
 
 /// Searches for a possible set of facts.
-fn search_any<'a>(alloc: Global, known: &'a Known<'a>, budget: u64) -> Result<Found, AllocError>
+fn search_any<'a>(alloc: Global, known: &'a FactConstraints<'a>, budget: u64) -> Result<Found, AllocError>
     ensures { IfOk result (λ r. SaysFound r known.now none budget (λ s. Unit {0}) (λ s. ⊥)) }
 {
     let goals = [Goal {
@@ -201,7 +201,7 @@ fn search_one<'a>(
     alloc: Global,
     e: &'a CfgExpr,
     wanted: bool,
-    known: &'a Known<'a>,
+    known: &'a FactConstraints<'a>,
     budget: u64,
 ) -> Result<Found, AllocError>
     ensures { IfOk result (λ r. SaysFound r known.now (tree (tree_of e.now) none) budget
@@ -225,7 +225,7 @@ pub fn search_both<'a>(
     a_wanted: bool,
     b: &'a CfgExpr,
     b_wanted: bool,
-    known: &'a Known<'a>,
+    known: &'a FactConstraints<'a>,
     budget: u64,
 ) -> Result<Found, AllocError>
     ensures { IfOk result (λ r. SaysFound r known.now (tree (tree_of a.now) (tree (tree_of b.now) none)) budget

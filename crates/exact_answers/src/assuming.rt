@@ -8,7 +8,7 @@ ghost use Rattle.exact_answers.specs.Inside.Paths.{base_of};
 ghost use Rattle.exact_answers.specs.Inside.Searches.{Searched, IsMetBy};
 
 use crate::goal_diagrams::{Goal, as_wanted};
-use crate::known::Known;
+use crate::fact_constraints::FactConstraints;
 use crate::path::Path;
 use crate::search::{Found, search};
 use cargo_platform::{Cfg, CfgExpr};
@@ -50,7 +50,7 @@ fn with_one_more(found: Found, goal: &Goal<'_>) -> Option<Found>
 fn without_first<'a>(
     alloc: Global,
     goals: &[Goal<'a>],
-    known: &'a Known<'a>,
+    known: &'a FactConstraints<'a>,
     splits: u64,
 ) -> Result<Option<Found>, AllocError>
     ensures { IfOk result (λ r. IfSome r (λ found. (budget : ℕ)
@@ -73,7 +73,7 @@ fn without_first<'a>(
 pub fn search_assuming<'a>(
     alloc: Global,
     goals: &[Goal<'a>],
-    known: &'a Known<'a>,
+    known: &'a FactConstraints<'a>,
     budget: u64,
 ) -> Result<Found, AllocError>
     ensures { IfOk result (λ r. Searched (base_of known.now) goals.now budget r) }

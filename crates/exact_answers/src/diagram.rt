@@ -9,7 +9,7 @@ ghost use Rattle.exact_answers.specs.Inside.Searches.{goal_trees, AreMissed, IsP
 ghost use Rattle.exact_answers.specs.Inside.Ahead.{AreAmong};
 
 use crate::goal_diagrams::{Choice, Goal, Outcome, find_choices};
-use crate::known::Known;
+use crate::fact_constraints::FactConstraints;
 use crate::path::Path;
 use crate::search::{Step, next_step};
 use cargo_platform::Cfg;
@@ -37,7 +37,7 @@ fn outcome_within<'a>(
     alloc: Global,
     goals: &[Goal<'a>],
     pairs: &[&'a Cfg],
-    known: &'a Known<'a>,
+    known: &'a FactConstraints<'a>,
     most_nodes: usize,
 ) -> Result<Outcome, AllocError>
     ensures { IfOk result (λ r. r ≡ Outcome.Nothing → AreMissed (base_of known.now) goals.now []) }
@@ -51,7 +51,7 @@ fn outcome_of<'a>(
     alloc: Global,
     goals: &[Goal<'a>],
     pairs: &[&'a Cfg],
-    known: &'a Known<'a>,
+    known: &'a FactConstraints<'a>,
 ) -> Result<Outcome, AllocError>
     ensures { IfOk result (λ r. r ≡ Outcome.Nothing → AreMissed (base_of known.now) goals.now []) }
 {
@@ -72,7 +72,7 @@ fn take_at<'a>(
     number: usize,
     holds: bool,
 ) -> Result<(), AllocError>
-    ensures { OnOk result ((k : Known) (es : Trees) → AreAmong (some_asks es) (pairs_of pairs.now)
+    ensures { OnOk result ((k : FactConstraints) (es : Trees) → AreAmong (some_asks es) (pairs_of pairs.now)
         → IsPathOf path.old k es → IsPathOf path.new k es) }
 {
     if number < pairs.len() {
@@ -87,7 +87,7 @@ fn path_of<'a>(
     alloc: Global,
     pairs: &[&'a Cfg],
     choices: &[Choice],
-    known: &'a Known<'a>,
+    known: &'a FactConstraints<'a>,
 ) -> Result<Path<'a>, AllocError>
     ensures { IfOk result (λ path. (es : Trees) → AreAmong (some_asks es) (pairs_of pairs.now)
         → IsPathOf path known.now es) }
@@ -108,7 +108,7 @@ fn tried<'a>(
     goals: &[Goal<'a>],
     pairs: &[&'a Cfg],
     choices: &[Choice],
-    known: &'a Known<'a>,
+    known: &'a FactConstraints<'a>,
 ) -> Result<Option<End<'a>>, AllocError>
     requires { AreAmong (some_asks (goal_trees goals.now)) (pairs_of pairs.now) }
     ensures { IfOk result (λ r. IfSome r (λ end. SaysEnd end known.now goals.now)) }
@@ -125,7 +125,7 @@ pub fn by_diagram<'a>(
     alloc: Global,
     goals: &[Goal<'a>],
     pairs: &[&'a Cfg],
-    known: &'a Known<'a>,
+    known: &'a FactConstraints<'a>,
 ) -> Result<Option<End<'a>>, AllocError>
     requires { AreAmong (some_asks (goal_trees goals.now)) (pairs_of pairs.now) }
     ensures { IfOk result (λ r. IfSome r (λ end. SaysEnd end known.now goals.now)) }

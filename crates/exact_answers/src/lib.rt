@@ -11,7 +11,7 @@ mod answers;
 mod assuming;
 mod diagram;
 pub mod goal_diagrams;
-mod known;
+mod fact_constraints;
 mod opening;
 mod outlook;
 mod path;
@@ -19,7 +19,7 @@ mod platforms;
 mod search;
 
 pub use answers::{CanHold, MustHold, always, can_be_met, can_hold, equivalent, exclude, implies};
-pub use known::{FAMILY_RULE, Known, family_rule};
+pub use fact_constraints::{FAMILY_RULE, FactConstraints, family_rule};
 pub use partial_facts::ONE_VALUED;
 pub use platforms::{
     CanSelect, MustSelect, PossibleTarget, always_platform, can_hold_platform, equivalent_platform,

@@ -17,7 +17,7 @@ ghost use Rattle.exact_answers.specs.Inside.Paths.{WereOpen};
 ghost use Rattle.exact_answers.specs.Inside.Searches.{AreAsked};
 ghost use Rattle.std.specs.FinSet.{contains};
 
-use crate::known::Known;
+use crate::fact_constraints::FactConstraints;
 use cargo_platform::{Cfg, Facts, Ident, Listed};
 use partial_facts::Knowledge;
 use partial_facts::names::{has_value, is_named, is_value};
@@ -69,7 +69,7 @@ fn takes_value(splits: &[Split<'_>], key: &Ident) -> bool
 /// The splits, the last one last, over what is known.
 #[derive(Drop)]
 pub struct Path<'a> {
-    known: &'a Known<'a>,
+    known: &'a FactConstraints<'a>,
     splits: Vec<Split<'a>>,
     /// The number of splits that were made, also those that were undone since. Pairs that a diagram chose do not count.
     made: u64,
@@ -101,7 +101,7 @@ impl<'a> Knowledge for Path<'a> {
 
 impl<'a> Path<'a> {
     /// Returns a path without splits.
-    pub fn new(alloc: Global, known: &'a Known<'a>) -> Path<'a>
+    pub fn new(alloc: Global, known: &'a FactConstraints<'a>) -> Path<'a>
         ensures known { result.known.now ≡ known.now }
         ensures none { turns result ≡ [] }
         ensures none_made { result.made ≡ 0 }
@@ -121,7 +121,7 @@ impl<'a> Path<'a> {
     }
 
     /// Returns what is known where no pair is split.
-    pub fn known(&self) -> &'a Known<'a>
+    pub fn known(&self) -> &'a FactConstraints<'a>
         ensures { result.now ≡ self.now.known.now }
     {
         self.known

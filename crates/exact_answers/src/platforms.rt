@@ -9,7 +9,7 @@ ghost use Rattle.exact_answers.specs.Inside.Targets.{tree_under, is_name_of, wan
 ghost use Rattle.exact_answers.specs.Inside.Targets.{with_name, or_undecided, as_can, as_must, SaysTarget};
 
 use crate::answers::search_both;
-use crate::known::Known;
+use crate::fact_constraints::FactConstraints;
 use crate::search::Found;
 use cargo_platform::{Cfg, CfgExpr, Platform};
 use std::alloc::{AllocError, Global};
@@ -48,7 +48,7 @@ pub enum MustSelect {
 /// The targets of a search: the possible ones on which both conditions have the wanted truths.
 #[derive(Clone, Copy)]
 struct Question<'a> {
-    known: &'a Known<'a>,
+    known: &'a FactConstraints<'a>,
     first: &'a Platform,
     first_wanted: bool,
     second: &'a Platform,
@@ -68,7 +68,7 @@ enum FoundTarget {
 pub fn can_hold_platform<'a>(
     alloc: Global,
     platform: &'a Platform,
-    known: &'a Known<'a>,
+    known: &'a FactConstraints<'a>,
     budget: u64,
 ) -> Result<CanSelect, AllocError>
     // With `Yes`, the condition is true on the example, which is possible. With `No`, it is false for each name over
@@ -88,7 +88,7 @@ pub fn can_hold_platform<'a>(
 pub fn always_platform<'a>(
     alloc: Global,
     platform: &'a Platform,
-    known: &'a Known<'a>,
+    known: &'a FactConstraints<'a>,
     budget: u64,
 ) -> Result<MustSelect, AllocError>
     // With `Yes`, it is so for each name over each possible set of facts. With `No`, it is not so for the example,
@@ -109,7 +109,7 @@ pub fn implies_platform<'a>(
     alloc: Global,
     a: &'a Platform,
     b: &'a Platform,
-    known: &'a Known<'a>,
+    known: &'a FactConstraints<'a>,
     budget: u64,
 ) -> Result<MustSelect, AllocError>
     // With `Yes`, it is so for each name over each possible set of facts. With `No`, it is not so for the example,
@@ -137,7 +137,7 @@ pub fn exclude_platform<'a>(
     alloc: Global,
     a: &'a Platform,
     b: &'a Platform,
-    known: &'a Known<'a>,
+    known: &'a FactConstraints<'a>,
     budget: u64,
 ) -> Result<MustSelect, AllocError>
     // With `Yes`, it is so for each name over each possible set of facts. With `No`, it is not so for the example,
@@ -165,7 +165,7 @@ pub fn equivalent_platform<'a>(
     alloc: Global,
     a: &'a Platform,
     b: &'a Platform,
-    known: &'a Known<'a>,
+    known: &'a FactConstraints<'a>,
     budget: u64,
 ) -> Result<MustSelect, AllocError>
     // With `Yes`, it is so for each name over each possible set of facts. With `No`, it is not so for the example,
@@ -231,7 +231,7 @@ fn search_one_target<'a>(
     alloc: Global,
     platform: &'a Platform,
     wanted: bool,
-    known: &'a Known<'a>,
+    known: &'a FactConstraints<'a>,
     budget: u64,
 ) -> Result<FoundTarget, AllocError>
     ensures { IfOk result (λ r. SaysTarget r

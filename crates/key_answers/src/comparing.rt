@@ -7,7 +7,7 @@ use crate::printing::shown_example;
 use crate::work::{Keys, splits_within};
 use cargo_platform::{CfgExpr, Platform};
 use exact_answers::{
-    Known, MustSelect, ONE_VALUED, PossibleTarget, exclude_platform, family_rule, implies_platform,
+    FactConstraints, MustSelect, ONE_VALUED, PossibleTarget, exclude_platform, family_rule, implies_platform,
 };
 use known_targets::{COUNT, TargetSet, matching};
 use std::alloc::{AllocError, Global};
@@ -202,7 +202,7 @@ fn found_everywhere<'a>(
     alloc: Global,
     a: &'a Platform,
     b: &'a Platform,
-    known: &'a Known<'a>,
+    known: &'a FactConstraints<'a>,
     splits: u64,
 ) -> Result<Everywhere, AllocError> {
     Ok(Everywhere {
@@ -282,7 +282,7 @@ fn compared(
     budget: u64,
     json: bool,
 ) -> Result<Answer, AllocError> {
-    let known = Known {
+    let known = FactConstraints {
         facts: &[],
         complete: &[],
         single: ONE_VALUED,

@@ -2,7 +2,7 @@
 
 use crate::questions::{copied, facts_of_lines};
 use cargo_platform::{Cfg, CfgExpr, Platform};
-use exact_answers::{CanSelect, Known, MustSelect, always_platform, can_hold_platform};
+use exact_answers::{CanSelect, FactConstraints, MustSelect, always_platform, can_hold_platform};
 use input_limits::without_mark;
 use key_answers::answer::Refusal;
 use key_answers::printing::{refused_fact, shown_name};
@@ -328,7 +328,7 @@ const SPLITS: u64 = 64;
 /// `SPLITS` case splits show.
 fn can_be(alloc: Global, condition: &Platform) -> Result<(bool, bool), AllocError> {
     let anything = CfgExpr::True;
-    let known = Known {
+    let known = FactConstraints {
         facts: &[],
         complete: &[],
         single: &[],

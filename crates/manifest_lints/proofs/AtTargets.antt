@@ -28,7 +28,7 @@ use Rattle.known_targets.specs.declared.members.Targets.{Targets}
 use Rattle.known_targets.specs.declared.table.TheConstants.{COUNT}
 use Rattle.known_targets.specs.declared.target_set.TargetSet.{TargetSet}
 use Rattle.known_targets.proofs.Taken.{left_open}
-use Rattle.exact_answers.specs.declared.known.Known.{Known}
+use Rattle.exact_answers.specs.declared.fact_constraints.FactConstraints.{FactConstraints}
 use Rattle.exact_answers.specs.Asking.{asks, some_asks}
 use Rattle.exact_answers.specs.Possible.{IsAllowed}
 use Rattle.exact_answers.proofs.Pairs as pairs
@@ -44,7 +44,7 @@ use Rattle.manifest_lints.proofs.Tried.{none_listed, none_named}
 
 -- ---- with nothing known, each set is possible
 
-pub all_allowed : (known : Known) → KnowsNothing known → (s : FactSet) → IsAllowed known s
+pub all_allowed : (known : FactConstraints) → KnowsNothing known → (s : FactSet) → IsAllowed known s
 all_allowed known nothing s = record {
   partly_known = record {
     has = λ p h. absurd (true≢false (sym h ∙ none_listed known.facts.now p nothing.facts));
@@ -210,7 +210,7 @@ as_true_merged s t e =
 
 -- ---- over any set of facts
 
-pub free_never : (known : Known) (c : Condition) {E : Type 0} (r : Result Decided E) → KnowsNothing known
+pub free_never : (known : FactConstraints) (c : Condition) {E : Type 0} (r : Result Decided E) → KnowsNothing known
     → IfOk r (λ d. SaysNever d known c) → IfOk r (λ d. IsTrue (is_unknown d) → NeedsMoreFor known c SPLITS_AT)
     → IfOk r (λ d. SaysNeverFree true d c)
 free_never known c (Ok decided.Yes) nothing says more =
@@ -219,7 +219,7 @@ free_never known c (Ok decided.No) nothing says more = (says.0, (says.1, says.3)
 free_never known c (Ok decided.Unknown) nothing says more = (known, (nothing, more refl))
 free_never known c (Err e) nothing says more = tt
 
-pub free_always : (known : Known) (c : Condition) {E : Type 0} (r : Result Decided E) → KnowsNothing known
+pub free_always : (known : FactConstraints) (c : Condition) {E : Type 0} (r : Result Decided E) → KnowsNothing known
     → IfOk r (λ d. SaysAlways d known c) → IfOk r (λ d. IsTrue (is_unknown d) → NeedsMoreFor known c SPLITS_AT)
     → IfOk r (λ d. SaysNeverFree false d c)
 free_always known c (Ok decided.Yes) nothing says more =

@@ -4,7 +4,7 @@ use Rattle.std.proofs.Common.{List, [], IsTrue, ◌⊎◌, inl, inr}
 use Rattle.std.specs.Prelude.{bytes_eq, string_bytes}
 use Rattle.cargo_platform.specs.Trees.{Condition, condition_of}
 use Rattle.cargo_platform.specs.declared.Platform.{Platform}
-use Rattle.exact_answers.specs.declared.known.Known.{Known}
+use Rattle.exact_answers.specs.declared.fact_constraints.FactConstraints.{FactConstraints}
 use Rattle.manifests.specs.Declarations.{DeclaredEntry}
 use Rattle.predicate_classes.specs.declared.classes.Category.TheVariants as category
 use Rattle.predicate_classes.specs.Classes.{classified_by, classified_in, has_category}
@@ -58,7 +58,7 @@ still_settles : (a b x : Bool) (Is IsNot : Type 0) → Settles a x Is IsNot → 
 still_settles a b x Is IsNot s = (s.0, λ no known. s.1 no (left_false a b known))
 
 -- beside other keys nothing more is settled, and what was right is so
-pub beside_others : (k : Known) (ds : List DeclaredEntry) (c : Condition) (a : Answers) (earlier : Earlier)
+pub beside_others : (k : FactConstraints) (ds : List DeclaredEntry) (c : Condition) (a : Answers) (earlier : Earlier)
     (open_too now_open : Bool) → now_open ≡ (a.is_open || open_too) → AnswersFor k ds c a
     → AnswersFor k ds c (record a { earlier = earlier; is_open = now_open })
 beside_others k ds c a earlier open_too now_open is f = record {
@@ -92,7 +92,7 @@ spells_nothing text (spelled.Condition p) h read = absurd (true≢false h)
 spells_nothing text (spelled.ByCargo m) h read = read
 spells_nothing text (spelled.Refused e) h read = read
 
-module _ (k : Known) (ds : List DeclaredEntry) (r : ReadKey) (key : KnownKey) (known : IsKnown ds r key) where
+module _ (k : FactConstraints) (ds : List DeclaredEntry) (r : ReadKey) (key : KnownKey) (known : IsKnown ds r key) where
   spelled_is : key.read.now.spelled ≡ r.spelled
   spelled_is = ap (λ z. z.spelled) known.read
 

@@ -33,7 +33,7 @@ use Rattle.known_targets.specs.Table.{target_name, target_facts}
 use Rattle.known_targets.specs.declared.target_set.TargetSet.{TargetSet}
 use Rattle.known_targets.specs.declared.table.TheConstants.{COUNT, WORDS}
 use Rattle.exact_answers.specs.Families.{IsSetWithFamily}
-use Rattle.exact_answers.specs.declared.known.Known.{Known}
+use Rattle.exact_answers.specs.declared.fact_constraints.FactConstraints.{FactConstraints}
 use Rattle.manifest_lints.specs.Samples.{AreTruths, is_set, truth_by, all_by, any_by, one_valued}
 use Rattle.manifest_lints.specs.Samples.{holds, holds_with, holds_beside, is_only}
 use Rattle.manifest_lints.specs.Rustcs.{IsRustcs, AllowsRustcs}
@@ -223,12 +223,12 @@ family_at e d i p within is =
     in_pairs (pairs_for e d) p
     (Contains-append_left families (map pair_of (values e ++ values d)) p (i, within, is))
 
-truths_alike : (k : Known) (e d : Tree) (s : FactSet) → AllowsRustcs k → IsRustcs s
+truths_alike : (k : FactConstraints) (e d : Tree) (s : FactSet) → AllowsRustcs k → IsRustcs s
     → AreEquivalent k (Expression e) (Expression d) → truth s e ≡ truth s d
 truths_alike k e d s allows is alike =
     let same = alike [] s ((allows s).1 is) in both_ways (truth s e) (truth s d) same.0 same.1
 
-pub same_truths : (k : Known) (e d : Tree) → AllowsRustcs k → AreEquivalent k (Expression e) (Expression d)
+pub same_truths : (k : FactConstraints) (e d : Tree) → AllowsRustcs k → AreEquivalent k (Expression e) (Expression d)
     → (h : Pair → Bool) → KeepsRules h → truth_by h e ≡ truth_by h d
 same_truths k e d allows alike h keeps =
     let ps = pairs_for e d in
@@ -290,7 +290,7 @@ not_asked e p missing =
     (λ c m. not_only l p (pair_of c)
     (fails_at (same_pair p) (map pair_of (values e)) (pair_of c) (mapped (values e) c m) missing))))
 
-module _ (k : Known) (e d : Tree) (allows : AllowsRustcs k)
+module _ (k : FactConstraints) (e d : Tree) (allows : AllowsRustcs k)
     (alike : AreEquivalent k (Expression e) (Expression d)) where
   named_is : (p : Pair) → is_unknown_value p ≡ true → is_named p.name one_valued ≡ true
   named_is p unknown =
@@ -339,7 +339,7 @@ bit_of words j l below =
     let bit : (64 * j + l) % 64 ≡ l = omega arith in
     λ i. nat_eq (bit_at (get_or words (word i) 0) (bit i)) 1
 
-module _ (k : Known) (e d : Tree) (allows : AllowsRustcs k) (alike : AreEquivalent k (Expression e) (Expression d))
+module _ (k : FactConstraints) (e d : Tree) (allows : AllowsRustcs k) (alike : AreEquivalent k (Expression e) (Expression d))
     (x y : Class) (first : IsClassOf e x) (second : IsClassOf d y) where
   at_place : (t : ℕ) → has x.targets t ≡ has y.targets t
   at_place t = elim (cases_lt t COUNT) [
@@ -372,7 +372,7 @@ module _ (k : Known) (e d : Tree) (allows : AllowsRustcs k) (alike : AreEquivale
 
 -- ---- what is compared
 
-module _ (k : Known) (keys : Keys) (c : Condition) (allows : AllowsRustcs k) (classed : AreClassed keys) where
+module _ (k : FactConstraints) (keys : Keys) (c : Condition) (allows : AllowsRustcs k) (classed : AreClassed keys) where
   found_among : (n : ℕ) (ns : List ℕ) → NoneIsEquivalent k keys c ns → Contains ns n → (m : Member)
       → IsMemberAt keys m n → AreEquivalent k (condition_of m.1.now) c → ⊥
   found_among n ns none_is (i, within, is) m at alike =
@@ -536,7 +536,7 @@ module _ (ws : List ℕ) (t : ℕ) (set : TargetSet) (e : Tree) (c : Condition)
 
 -- ---- what is told of a class and its part
 
-pub among_some : {E : Type 0} (k : Known) (keys : Keys) (c : Condition) (class : Class) (number : Option ℕ) (n : ℕ)
+pub among_some : {E : Type 0} (k : FactConstraints) (keys : Keys) (c : Condition) (class : Class) (number : Option ℕ) (n : ℕ)
     (r : Result Earlier E) → number ≡ Some n → IfOk r (TellsUnlike k keys c (part_of class number))
     → IfOk r (TellsUnlike k keys c (part_of class None))
     → IfOk r (λ a. IsTrue (is_unlike a) → AreUnlike k keys c class number)
@@ -545,7 +545,7 @@ among_some k keys c class number n (Ok a) is first second = λ so.
     (subst (λ (o : Option ℕ). NoneIsEquivalent k keys c (places_of keys (part_of class o))) is (first so), second so)
 among_some k keys c class number n (Err e) is first second = tt
 
-pub among_none : {E : Type 0} (k : Known) (keys : Keys) (c : Condition) (class : Class) (number : Option ℕ)
+pub among_none : {E : Type 0} (k : FactConstraints) (keys : Keys) (c : Condition) (class : Class) (number : Option ℕ)
     (r : Result Earlier E) → number ≡ None → IfOk r (TellsUnlike k keys c class)
     → IfOk r (λ a. IsTrue (is_unlike a) → AreUnlike k keys c class number)
 among_none k keys c class number (Ok a) is told = λ so. subst (AreUnlike k keys c class) (sym is) (told so)
@@ -610,7 +610,7 @@ same_classed old new members classes before m n at =
           (sym classes) its.in_part;
     }
 
-pub same_unlike : {E : Type 0} (k : Known) (old new : Keys) (c : Condition) (r : Result Earlier E)
+pub same_unlike : {E : Type 0} (k : FactConstraints) (old new : Keys) (c : Condition) (r : Result Earlier E)
     → new.members.items ≡ old.members.items → IfOk r (TellsNoneEquivalent k new c)
     → IfOk r (TellsNoneEquivalent k old c)
 same_unlike k old new c (Ok a) same told = λ so e is_tree m n at.

@@ -13,7 +13,7 @@ use Rattle.cargo_platform.specs.Trees.{Condition, Target, Expression, condition_
 use Rattle.cargo_platform.specs.Key.{condition_key}
 use Rattle.cargo_platform.specs.Platforms.{IsConditionText}
 use Rattle.cargo_platform.proofs.Conditions.{one_condition}
-use Rattle.exact_answers.specs.declared.known.Known.{Known}
+use Rattle.exact_answers.specs.declared.fact_constraints.FactConstraints.{FactConstraints}
 use Rattle.manifests.specs.Entries.{Entry}
 use Rattle.manifest_lints_findings.specs.Spells.{SpellsNothing}
 use Rattle.manifest_lints.specs.Classes.{AreClassed, TellsNoneEquivalent}
@@ -33,7 +33,7 @@ use Rattle.manifest_lints.proofs.MoreSames.{at_has, at_within, has_so}
 
 -- ---- conditions that are as true
 
-module _ (k : Known) where
+module _ (k : FactConstraints) where
   alike_self : (c : Condition) → AreEquivalent k c c
   alike_self c = λ name s allowed. (λ h. h, λ h. h)
 
@@ -65,7 +65,7 @@ module _ (k : Known) where
 
 -- ---- a key that is told unlike all
 
-module _ (k : Known) (es : List Entry) (ns : List ℕ) (old : Keys) (c : Condition) (members : AreMembers es old)
+module _ (k : FactConstraints) (es : List Entry) (ns : List ℕ) (old : Keys) (c : Condition) (members : AreMembers es old)
     (before : AreCovered k es ns old) where
   no_member : (r : Earlier) → TellsNoneEquivalent k old c r → IsTrue (is_unlike r) → IsExpression c
       → (d : Condition) → AreEquivalent k d c
@@ -118,7 +118,7 @@ decided_then false beside false decides is_open is by closed told = absurd (true
 decided_then false beside true true is_open is by closed told = refl
 decided_then false beside true false is_open is by closed told = absurd (true≢false (sym (is ∙ by) ∙ closed))
 
-pub never_or_always : (k : Known) (c : Condition) (never always : Bool) → (IsTrue never → IsNever k c)
+pub never_or_always : (k : FactConstraints) (c : Condition) (never always : Bool) → (IsTrue never → IsNever k c)
     → (IsTrue always → IsAlways k c) → (never || always) ≡ true → IsNever k c ⊎ IsAlways k c
 never_or_always k c never always is_never is_always one =
     elim (one_or never always one) [ inl h ↦ inl (is_never h) | inr h ↦ inr (is_always h) ]
@@ -158,13 +158,13 @@ last_one P old new m more so =
     subst (Any P) (sym more)
     (length old.members.items, m, omega arith, get_or-append_seam old.members.items m [] m, so)
 
-pub none_covered : (k : Known) (ns : List ℕ) (keys : Keys) → AreClassed keys → AreCovered k [] ns keys
+pub none_covered : (k : FactConstraints) (ns : List ℕ) (keys : Keys) → AreClassed keys → AreCovered k [] ns keys
 none_covered k ns keys classed = record {
   classed = classed;
   covered = λ d n tree settled. let within = at_within (λ x. x ≡ d) [] n settled.one in absurd (omega arith);
 }
 
-module _ (k : Known) (es : List Entry) (e : Entry) (ns more : List ℕ) (old : Keys) (before : AreCovered k es ns old)
+module _ (k : FactConstraints) (es : List Entry) (e : Entry) (ns more : List ℕ) (old : Keys) (before : AreCovered k es ns old)
   where
     -- a key that was settled before the last one
     was_settled : (d : Condition) (n : ℕ) (h : IsSettledAt (es ++ e ∷ []) (ns ++ more) d n) (rest : List Entry)
@@ -217,7 +217,7 @@ not_listed : (n : ℕ) (is_open : Bool) → (Contains (left_open n is_open) n �
 not_listed n true none = absurd (none (0, omega arith, refl))
 not_listed n false none = refl
 
-module _ (k : Known) (es : List Entry) (e : Entry) (ns : List ℕ) (old new : Keys) (n : ℕ) (p : Bor Platform)
+module _ (k : FactConstraints) (es : List Entry) (e : Entry) (ns : List ℕ) (old new : Keys) (n : ℕ) (p : Bor Platform)
     (before : AreCovered k es ns old) (classed : AreClassed new) (adds : AddsMember old new n p)
     (text : IsConditionText e.0 (condition_of p.now)) where
   told_covered : (r : Earlier) → PutsUnlike old new n p r

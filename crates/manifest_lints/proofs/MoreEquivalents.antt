@@ -12,7 +12,7 @@ use Rattle.cargo_platform.specs.Trees.{Condition, condition_of}
 use Rattle.cargo_platform.specs.Platforms.{IsConditionText}
 use Rattle.exact_answers.specs.Asking.{NeedsMore}
 use Rattle.exact_answers.specs.Targets.{asked_trees}
-use Rattle.exact_answers.specs.declared.known.Known.{Known}
+use Rattle.exact_answers.specs.declared.fact_constraints.FactConstraints.{FactConstraints}
 use Rattle.manifest_lints.specs.declared.deciding.TheConstants.{LEVELS}
 use Rattle.manifest_lints.specs.declared.earlier.Keys.{Keys}
 use Rattle.manifest_lints.specs.Earlier.{AddsMember, AreEquivalent, HasEquivalentMember, MayBeUndecided}
@@ -72,7 +72,7 @@ one_member es e old new n p (inr more) before text place =
 
 -- ---- what is told of these keys
 
-module _ (k : Known) (es : List Entry) (old : Keys) (c : Condition) (before : AreMembers es old) where
+module _ (k : FactConstraints) (es : List Entry) (old : Keys) (c : Condition) (before : AreMembers es old) where
   -- where something holds of a condition, it holds of what the key spells
   pub as_spelled : (Q : Condition → Type 0) (i : ℕ) (m : ℕ × Bor Platform) → i < length old.members.items
       → get_or old.members.items i m ≡ m → Q (condition_of m.1.now) → IsOneAt Q es m.0

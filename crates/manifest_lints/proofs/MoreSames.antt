@@ -11,7 +11,7 @@ use Rattle.cargo_platform.specs.Key.{condition_key, condition_cmp}
 use Rattle.cargo_platform.specs.OrderLaws.{condition_equal_iff}
 use Rattle.cargo_platform.specs.Platforms.{IsConditionText}
 use Rattle.cargo_platform.proofs.Conditions.{one_condition}
-use Rattle.exact_answers.specs.declared.known.Known.{Known}
+use Rattle.exact_answers.specs.declared.fact_constraints.FactConstraints.{FactConstraints}
 use Rattle.manifest_lints.specs.declared.earlier.Earlier.{Earlier}
 use Rattle.manifest_lints.specs.declared.earlier.Earlier.TheVariants as earlier
 use Rattle.manifest_lints.specs.declared.earlier.Keys.{Keys}
@@ -153,7 +153,7 @@ none_more es e keys before nothing = λ q.
 
 -- ---- what is told of earlier keys
 
-module _ (k : Known) (es : List Entry) (c : Condition) where
+module _ (k : FactConstraints) (es : List Entry) (c : Condition) where
   pub tells_same : (a : Earlier) → IsFirst (IsSameAs c) es (same_place a) → IsTrue (is_same a) ↔ HasSame es c
   tells_same (earlier.Same n) is = (λ h. at_has (IsSameAs c) es n is.one, λ h. refl)
   tells_same earlier.Unlike is = (λ h. absurd (true≢false (sym h)), λ h. absurd (is h))

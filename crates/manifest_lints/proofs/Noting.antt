@@ -22,7 +22,7 @@ use Rattle.cargo_platform.specs.OrderLaws.{condition_equal_iff}
 use Rattle.exact_answers.specs.Asking.{NeedsMore}
 use Rattle.exact_answers.specs.Targets.{asked_trees, MayHaveName, IsExample}
 use Rattle.exact_answers.specs.declared.platforms.PossibleTarget.{PossibleTarget}
-use Rattle.exact_answers.specs.declared.known.Known.{Known}
+use Rattle.exact_answers.specs.declared.fact_constraints.FactConstraints.{FactConstraints}
 use Rattle.manifest_lints.specs.declared.earlier.Class.{Class}
 use Rattle.manifest_lints.specs.declared.earlier.Keys.{Keys}
 use Rattle.manifest_lints.specs.declared.earlier.Earlier.{Earlier}
@@ -48,7 +48,7 @@ set_one c d n old new is =
     (λ h. is ∙ s.0 h, λ h. is ∙ s.1 h)
 
 -- a member that is found at a place
-pub member_at : (k : Known) (ms : List (ℕ × Bor Platform)) (keys : Keys) (c : Condition) (i : ℕ)
+pub member_at : (k : FactConstraints) (ms : List (ℕ × Bor Platform)) (keys : Keys) (c : Condition) (i : ℕ)
     (m : ℕ × Bor Platform) → ms ≡ keys.members.items → ltb i (length ms) ≡ true → m ≡ get_or ms i m
     → AreEquivalent k (condition_of m.1.now) c → HasEquivalentMember k keys c m.0
 member_at k ms keys c i m are within at alike =
@@ -56,7 +56,7 @@ member_at k ms keys c i m are within at alike =
     (i, m, ltb-true i (length ms) within, sym at, (refl, alike))
 
 -- a member of which it is not known whether it is as true
-pub undecided_at : (k : Known) (ms : List (ℕ × Bor Platform)) (keys : Keys) (c : Condition) (i splits : ℕ)
+pub undecided_at : (k : FactConstraints) (ms : List (ℕ × Bor Platform)) (keys : Keys) (c : Condition) (i splits : ℕ)
     (m : ℕ × Bor Platform) → ms ≡ keys.members.items → ltb i (length ms) ≡ true → m ≡ get_or ms i m
     → NeedsMore k (asked_trees (condition_of m.1.now ∷ c ∷ [])) splits → MayBeUndecided k (Some splits) keys c
 undecided_at k ms keys c i splits m are within at more =
@@ -83,7 +83,7 @@ name_beside None (Expression e) (Target b) =
 name_beside None (Expression e) (Expression f) = ([], tt)
 
 -- where an example tells two conditions apart, they are not as true
-pub not_alike : (k : Known) (q p : Condition) (t : PossibleTarget)
+pub not_alike : (k : FactConstraints) (q p : Condition) (t : PossibleTarget)
     → IsExample t k (q ∷ p ∷ []) (λ name s. (IsTrueCondition name s q ↔ IsTrueCondition name s p) → ⊥)
     → AreEquivalent k q p → ⊥
 not_alike k q p t is alike =
@@ -91,7 +91,7 @@ not_alike k q p t is alike =
     is.1.0 n.0 n.1 (alike n.0 (fact_set (map value_of t.facts.items)) is.0)
 
 -- the member that was found at a place is the one there
-pub not_member_at : (k : Known) (ms : List Member) (keys : Keys) (c : Condition) (i : ℕ) (m : Member)
+pub not_member_at : (k : FactConstraints) (ms : List Member) (keys : Keys) (c : Condition) (i : ℕ) (m : Member)
     → ms ≡ keys.members.items → m ≡ get_or ms i m → (AreEquivalent k (condition_of m.1.now) c → ⊥)
     → (n : Member) → IsMemberAt keys n i → AreEquivalent k (condition_of n.1.now) c → ⊥
 not_member_at k ms keys c i m are at apart n is alike =
@@ -99,17 +99,17 @@ not_member_at k ms keys c i m are at apart n is alike =
     apart (subst (λ (x : Member). AreEquivalent k (condition_of x.1.now) c) same alike)
 
 -- no member stands past the last
-pub none_past : (k : Known) (ms : List Member) (keys : Keys) (c : Condition) (i : ℕ) → ms ≡ keys.members.items
+pub none_past : (k : FactConstraints) (ms : List Member) (keys : Keys) (c : Condition) (i : ℕ) → ms ≡ keys.members.items
     → ltb i (length ms) ≡ false
     → (n : Member) → IsMemberAt keys n i → AreEquivalent k (condition_of n.1.now) c → ⊥
 none_past k ms keys c i are past n is alike =
     true≢false (sym (lt-ltb i (length ms) (subst (λ (xs : List Member). i < length xs) (sym are) is.0)) ∙ past)
 
-pub none_compared : (k : Known) (keys : Keys) (c : Condition) (ns : List ℕ) → NoneIsEquivalent k keys c (take 0 ns)
+pub none_compared : (k : FactConstraints) (keys : Keys) (c : Condition) (ns : List ℕ) → NoneIsEquivalent k keys c (take 0 ns)
 none_compared k keys c ns =
     All-nil (λ n. (m : Member) → IsMemberAt keys m n → AreEquivalent k (condition_of m.1.now) c → ⊥)
 
-pub one_compared : (k : Known) (keys : Keys) (c : Condition) (ns : List ℕ) (i d : ℕ) → i < length ns
+pub one_compared : (k : FactConstraints) (keys : Keys) (c : Condition) (ns : List ℕ) (i d : ℕ) → i < length ns
     → NoneIsEquivalent k keys c (take i ns)
     → ((n : Member) → IsMemberAt keys n (get_or ns i d) → AreEquivalent k (condition_of n.1.now) c → ⊥)
     → NoneIsEquivalent k keys c (take (i + 1) ns)
@@ -118,14 +118,14 @@ one_compared k keys c ns i d within before now =
     (All-push (λ n. (m : Member) → IsMemberAt keys m n → AreEquivalent k (condition_of m.1.now) c → ⊥)
     (take i ns) (get_or ns i d) before now)
 
-pub all_compared : (k : Known) (keys : Keys) (c : Condition) (ns : List ℕ) (class : Class) (i : ℕ)
+pub all_compared : (k : FactConstraints) (keys : Keys) (c : Condition) (ns : List ℕ) (class : Class) (i : ℕ)
     (o : Option (Vec ℕ Global)) → length ns ≤ i → NoneIsEquivalent k keys c (take i ns) → ns ≡ places_in o
     → o ≡ ordered.get class_cmp keys.classes class → NoneIsEquivalent k keys c (places_of keys class)
 all_compared k keys c ns class i o past before are is =
     subst (NoneIsEquivalent k keys c) (take_all i ns past ∙ are ∙ ap places_in is) before
 
 -- what notes a condition adds no member
-pub same_members : {E : Type 0} (k : Known) (new old : Keys) (c : Condition) (r : Result Earlier E)
+pub same_members : {E : Type 0} (k : FactConstraints) (new old : Keys) (c : Condition) (r : Result Earlier E)
     → new.members.items ≡ old.members.items
     → IfOk r (λ a. IfSome (equivalent_place a) (HasEquivalentMember k new c))
     → IfOk r (λ a. IfSome (equivalent_place a) (HasEquivalentMember k old c))
@@ -133,14 +133,14 @@ same_members k new old c r same h =
     subst (λ (ms : List (ℕ × Bor Platform)). IfOk r (λ a. IfSome (equivalent_place a)
     (λ n. Any (λ (m : ℕ × Bor Platform). (m.0 ≡ n) × AreEquivalent k (condition_of m.1.now) c) ms))) same h
 
-undecided_too : (k : Known) (budget : Option ℕ) (new old : Keys) (c : Condition)
+undecided_too : (k : FactConstraints) (budget : Option ℕ) (new old : Keys) (c : Condition)
     → new.members.items ≡ old.members.items → MayBeUndecided k budget new c → MayBeUndecided k budget old c
 undecided_too k None new old c same h = tt
 undecided_too k (Some splits) new old c same h =
     subst (λ (ms : List (ℕ × Bor Platform)). Any (λ (m : ℕ × Bor Platform).
     NeedsMore k (asked_trees (condition_of m.1.now ∷ c ∷ [])) splits) ms ⊎ (MOST < length ms)) same h
 
-pub same_undecided : {E : Type 0} (k : Known) (budget : Option ℕ) (new old : Keys) (c : Condition)
+pub same_undecided : {E : Type 0} (k : FactConstraints) (budget : Option ℕ) (new old : Keys) (c : Condition)
     (r : Result Earlier E) → new.members.items ≡ old.members.items
     → IfOk r (λ a. IsTrue (is_undecided a) → MayBeUndecided k budget new c)
     → IfOk r (λ a. IsTrue (is_undecided a) → MayBeUndecided k budget old c)

@@ -8,7 +8,7 @@ use Rattle.std.proofs.lemmas.List.{take_all, take_more, map-append, append-nil, 
 use Rattle.std.proofs.lemmas.List.{get_or-take, get_or-map}
 use Rattle.std.proofs.lemmas.List.Elements.{filter-append, All-nil, All-push, All-append, All-weaker}
 use Rattle.std.proofs.Math.Bool.{cond}
-use Rattle.exact_answers.specs.declared.known.Known.{Known}
+use Rattle.exact_answers.specs.declared.fact_constraints.FactConstraints.{FactConstraints}
 use Rattle.manifest_lints.specs.declared.earlier.Earlier.{Earlier}
 use Rattle.manifest_lints_findings.specs.declared.codes.Code.{Code}
 use Rattle.manifest_lints_findings.specs.declared.findings.Finding.{Finding}
@@ -36,7 +36,7 @@ next_entries reads i d within =
     ∙ ap (map entry_read) (sym (take_more reads i d within))
 
 -- a key that is named stands before
-found_within : (k : Known) (ds : List DeclaredEntry) (es : List Entry) (ns : List ℕ) (e : Entry) (codes : CodeSet)
+found_within : (k : FactConstraints) (ds : List DeclaredEntry) (es : List Entry) (ns : List ℕ) (e : Entry) (codes : CodeSet)
     (earlier : Earlier) (is_open : Bool) → IsFound k ds es ns e codes earlier is_open
     → IfSome (named_place earlier) (λ n. n < length es)
 found_within k ds es ns e codes earlier is_open (inl spelled) =
@@ -69,7 +69,7 @@ module _ (reads : List ReadKey) (i : ℕ) (d : ReadKey) (within : i < length rea
       (is (omega arith) e ∙ ap (λ (x : Entry). x.0) (before_is n e before)) names
   names_by None f before is names = tt
 
-  pub one_more : (k : Known) (ds : List DeclaredEntry) (key : KnownKey) (codes : CodeSet) (earlier : Earlier)
+  pub one_more : (k : FactConstraints) (ds : List DeclaredEntry) (key : KnownKey) (codes : CodeSet) (earlier : Earlier)
       (is_open : Bool)
       (old new : List Finding) (before_open now_open : List ℕ)
       → AreFindingsOn k ds (map entry_read (take i reads)) old before_open

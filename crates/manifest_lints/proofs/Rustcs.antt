@@ -4,13 +4,13 @@ use Rattle.cargo_platform.specs.Trees.{tree_of, value_of}
 use Rattle.cargo_platform.specs.Facts.{FactSet, fact_set, truth}
 use Rattle.cargo_platform.specs.declared.cfg.Cfg.{Cfg}
 use Rattle.partial_facts.specs.declared.one_valued.TheConstants.{ONE_VALUED}
-use Rattle.exact_answers.specs.declared.known.Known.{Known}
+use Rattle.exact_answers.specs.declared.fact_constraints.FactConstraints.{FactConstraints}
 use Rattle.exact_answers.specs.Possible.{HasOneValue}
 use Rattle.exact_answers.specs.Families.{KeepsFamilyRule}
 use Rattle.manifest_lints.proofs.Tried.{none_listed, none_named}
 use Rattle.manifest_lints.specs.Reports.{AllowsRustcs}
 
-pub allows_rustcs : (k : Known) → k.facts.now ≡ [] → k.complete.now ≡ []
+pub allows_rustcs : (k : FactConstraints) → k.facts.now ≡ [] → k.complete.now ≡ []
     → map (λ t. t.now) k.single.now ≡ map (λ t. t.now) ONE_VALUED.now
     → ((s : FactSet) → (truth s (tree_of k.assumed.now) ≡ true) ↔ KeepsFamilyRule s) → AllowsRustcs k
 allows_rustcs k facts complete single rule s =

@@ -15,7 +15,7 @@ use Rattle.cargo_platform.proofs.FactSets.{pairs_total}
 use Rattle.cargo_platform.specs.declared.cfg.Cfg.{Cfg}
 use Rattle.cargo_platform.proofs.FactTruths.{listed, condition_truth}
 use Rattle.partial_facts.specs.Partly.{is_named}
-use Rattle.exact_answers.specs.declared.known.Known.{Known}
+use Rattle.exact_answers.specs.declared.fact_constraints.FactConstraints.{FactConstraints}
 use Rattle.exact_answers.specs.Possible.{HasOneValue, is_single, IsAllowed}
 use Rattle.manifest_lints.specs.Doubled.{are_two, are_two_values, is_doubled_in, has_doubled, pairs_at}
 use Rattle.manifest_lints.specs.Truths.{CanBe}
@@ -74,7 +74,7 @@ one_value listed_facts single cs none p q sp sq name inside also =
 empty_is : {X : Type 0} (xs : List X) → (length xs == 0) ≡ true → xs ≡ []
 empty_is xs h = nil_from_length xs ((Decides-eqb (length xs) 0).0 h)
 
-pub are_possible : (k : Known) (cs : List Cfg) → (length k.facts.now == 0) ≡ true
+pub are_possible : (k : FactConstraints) (cs : List Cfg) → (length k.facts.now == 0) ≡ true
     → (length k.complete.now == 0) ≡ true → has_doubled (map (λ t. t.now) k.single.now) (pairs_at cs) ≡ false
     → truth (fact_set (map value_of cs)) (tree_of k.assumed.now) ≡ true → IsAllowed k (fact_set (map value_of cs))
 are_possible k cs facts complete none assumed = record {
@@ -87,7 +87,7 @@ are_possible k cs facts complete none assumed = record {
   assumed_true = assumed;
 }
 
-pub shown_to_be : (k : Known) (c : Condition) (s : FactSet) (b truth : Bool) → IsAllowed k s
+pub shown_to_be : (k : FactConstraints) (c : Condition) (s : FactSet) (b truth : Bool) → IsAllowed k s
     → b ≡ truth_of_condition [] s c → b ≡ truth → CanBe truth k c
 shown_to_be k c s b true possible is h = ([], s, possible, (condition_truth [] s c).0 (sym is ∙ h))
 shown_to_be k c s b false possible is h =

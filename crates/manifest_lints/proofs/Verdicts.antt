@@ -5,7 +5,7 @@ use Rattle.std.specs.Prelude.{String, string_bytes}
 use Rattle.std.specs.declared.alloc.Global.{Global}
 use Rattle.cargo_platform.specs.Trees.{Condition, Target, Expression, value_of}
 use Rattle.cargo_platform.specs.Facts.{fact_set, IsTrueCondition}
-use Rattle.exact_answers.specs.declared.known.Known.{Known}
+use Rattle.exact_answers.specs.declared.fact_constraints.FactConstraints.{FactConstraints}
 use Rattle.exact_answers.specs.declared.platforms.PossibleTarget.{PossibleTarget}
 use Rattle.exact_answers.specs.Targets.{MayHaveName, IsExample}
 use Rattle.manifest_lints.specs.declared.deciding.Decided.{Decided}
@@ -26,33 +26,33 @@ name_of (Some own) c = (string_bytes own, refl)
 name_of None (Target own) = (0 ∷ own, ((λ e. let l : length own ≡ length (0 ∷ own) = ap length e in omega arith), tt))
 name_of None (Expression e) = ([], tt)
 
-pub can_hold : (k : Known) (c : Condition) (t : PossibleTarget)
+pub can_hold : (k : FactConstraints) (c : Condition) (t : PossibleTarget)
     → IsExample t k (c ∷ []) (λ name s. IsTrueCondition name s c) → CanHold k c
 can_hold k c t is =
     let n = name_of t.name c in (n.0, fact_set (map value_of t.facts.items), is.0, is.1.0 n.0 n.1)
 
-pub can_fail : (k : Known) (c : Condition) (t : PossibleTarget)
+pub can_fail : (k : FactConstraints) (c : Condition) (t : PossibleTarget)
     → IsExample t k (c ∷ []) (λ name s. IsTrueCondition name s c → ⊥) → CanFail k c
 can_fail k c t is =
     let n = name_of t.name c in (n.0, fact_set (map value_of t.facts.items), is.0, is.1.0 n.0 n.1)
 
-pub never_so : (k : Known) (c : Condition) (d : Decided) → SaysNever d k c → is_yes d ≡ true → IsNever k c
+pub never_so : (k : FactConstraints) (c : Condition) (d : Decided) → SaysNever d k c → is_yes d ≡ true → IsNever k c
 never_so k c decided.Yes h is = h
 never_so k c decided.No h is = cc
 never_so k c decided.Unknown h is = cc
 
-pub always_so : (k : Known) (c : Condition) (d : Decided) → SaysAlways d k c → is_yes d ≡ true → IsAlways k c
+pub always_so : (k : FactConstraints) (c : Condition) (d : Decided) → SaysAlways d k c → is_yes d ≡ true → IsAlways k c
 always_so k c decided.Yes h is = h
 always_so k c decided.No h is = cc
 always_so k c decided.Unknown h is = cc
 
-pub can_hold_so : (k : Known) (c : Condition) (d e : Decided) → SaysNever d k c → is_yes d ≡ false
+pub can_hold_so : (k : FactConstraints) (c : Condition) (d e : Decided) → SaysNever d k c → is_yes d ≡ false
     → (is_unknown d || is_unknown e) ≡ false → CanHold k c
 can_hold_so k c decided.Yes e h not_yes is = absurd (true≢false not_yes)
 can_hold_so k c decided.No e h not_yes is = h
 can_hold_so k c decided.Unknown e h not_yes is = absurd (true≢false is)
 
-pub can_fail_so : (k : Known) (c : Condition) (d e : Decided) → SaysAlways e k c → is_yes e ≡ false
+pub can_fail_so : (k : FactConstraints) (c : Condition) (d e : Decided) → SaysAlways e k c → is_yes e ≡ false
     → (is_unknown d || is_unknown e) ≡ false → CanFail k c
 can_fail_so k c d decided.Yes h not_yes is = absurd (true≢false not_yes)
 can_fail_so k c d decided.No h not_yes is = h

@@ -3,7 +3,7 @@ use Rattle.std.specs.Prelude.{◌≡◌, ◌<◌, ◌≤◌, ◌⊎◌, ℕ, Boo
 use Rattle.cargo_platform.specs.Trees.{Condition, True, tree_of}
 use Rattle.cargo_platform.specs.Facts.{FactSet, IsTrueCondition}
 use Rattle.partial_facts.specs.Conditions.{kleene_condition, residual_condition}
-use Rattle.exact_answers.specs.declared.known.Known.{Known}
+use Rattle.exact_answers.specs.declared.fact_constraints.FactConstraints.{FactConstraints}
 use Rattle.exact_answers.specs.Asking.{NeedsMore}
 use Rattle.exact_answers.specs.Targets.{asked_trees}
 use Rattle.known_targets.specs.Open.{open_told, IsSameButOpen}
@@ -24,7 +24,7 @@ IsOver true name s c = IsTrueCondition name s c
 IsOver false name s c = IsTrueCondition name s c → ⊥
 
 -- nothing is known of the facts of a target
-pub record KnowsNothing (k : Known) : Type 0 where
+pub record KnowsNothing (k : FactConstraints) : Type 0 where
   pub facts : k.facts.now ≡ []
   pub complete : k.complete.now ≡ []
   pub single : k.single.now ≡ []
@@ -32,7 +32,7 @@ pub record KnowsNothing (k : Known) : Type 0 where
 
 -- the case splits on one target are too few for the condition
 abbrev pub NeedsMoreFree : Condition → Type 0
-NeedsMoreFree c = (known : Known) × (KnowsNothing known × NeedsMore known (asked_trees (c ∷ [])) SPLITS_AT)
+NeedsMoreFree c = (known : FactConstraints) × (KnowsNothing known × NeedsMore known (asked_trees (c ∷ [])) SPLITS_AT)
 
 -- the meaning of the answers to whether it never has this truth value
 abbrev pub SaysNeverFree : Bool → Decided → Condition → Type 0

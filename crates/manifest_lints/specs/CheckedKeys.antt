@@ -1,7 +1,7 @@
 -- The answers about a key, and the lints that apply to it. The promises about a report do not depend on these words.
 use Rattle.std.specs.Prelude.{◌<◌, true, false, List, IsTrue, length}
 use Rattle.cargo_platform.specs.Trees.{Condition}
-use Rattle.exact_answers.specs.declared.known.Known.{Known}
+use Rattle.exact_answers.specs.declared.fact_constraints.FactConstraints.{FactConstraints}
 use Rattle.manifests.specs.Declarations.{DeclaredEntry}
 use Rattle.predicate_classes.specs.Classes.{classified_in, open_in}
 use Rattle.manifest_lints_findings.specs.declared.codes.Code.TheVariants as code
@@ -15,7 +15,7 @@ use Rattle.manifest_lints.specs.declared.checked_keys.CheckedKey.{CheckedKey}
 use Rattle.manifest_lints.specs.Reports.{Settles, SettlesPlaces}
 
 -- the answers about a condition by itself are right
-pub record AnswersFor (k : Known) (ds : List DeclaredEntry) (c : Condition) (a : Answers) : Type 0 where
+pub record AnswersFor (k : FactConstraints) (ds : List DeclaredEntry) (c : Condition) (a : Answers) : Type 0 where
   pub never : Settles a.is_open a.never (IsNever k c) (CanHold k c)
   pub always : Settles a.is_open a.always (IsAlways k c) (CanFail k c)
   pub nowhere : SettlesPlaces true ds c a.nowhere

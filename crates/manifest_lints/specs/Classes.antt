@@ -10,7 +10,7 @@ use Rattle.cargo_platform.specs.Facts.{truth}
 use Rattle.known_targets.specs.Bits.{has}
 use Rattle.known_targets.specs.Table.{target_facts}
 use Rattle.known_targets.specs.declared.table.TheConstants.{COUNT, WORDS}
-use Rattle.exact_answers.specs.declared.known.Known.{Known}
+use Rattle.exact_answers.specs.declared.fact_constraints.FactConstraints.{FactConstraints}
 use Rattle.manifest_lints.specs.Samples.{AreTruths, holds_beside}
 use Rattle.manifest_lints.specs.Numbers.{IsNumberOf}
 use Rattle.manifest_lints.specs.Earlier.{Member, IsMemberAt, AreEquivalent, NoneIsEquivalent, is_unlike}
@@ -66,14 +66,14 @@ AreClassed keys = (m : Member) (n : ℕ) → IsMemberAt keys m n → IsClassed k
 -- ---- the relation to members
 
 -- none of those that share the class and the number is equivalent
-abbrev pub AreUnlike : Known → Keys → Condition → Class → Option ℕ → Type 0
+abbrev pub AreUnlike : FactConstraints → Keys → Condition → Class → Option ℕ → Type 0
 AreUnlike k keys c class None = NoneIsEquivalent k keys c (places_of keys class)
 AreUnlike k keys c class (Some number) =
     NoneIsEquivalent k keys c (places_of keys (part_of class (Some number)))
     × NoneIsEquivalent k keys c (places_of keys (part_of class None))
 
 -- if the result says that an expression is unlike earlier ones, no member is equivalent
-abbrev pub TellsNoneEquivalent : Known → Keys → Condition → Earlier → Type 0
+abbrev pub TellsNoneEquivalent : FactConstraints → Keys → Condition → Earlier → Type 0
 TellsNoneEquivalent k keys c r =
     IsTrue (is_unlike r) → (e : Tree) → c ≡ Expression e → (m : Member) (n : ℕ) → IsMemberAt keys m n
     → AreEquivalent k (condition_of m.1.now) c → ⊥

@@ -10,7 +10,7 @@ use Rattle.cargo_platform.specs.declared.Platform.{Platform}
 use Rattle.cargo_platform.specs.Trees.{Condition, Tree, Expression, condition_of}
 use Rattle.cargo_platform.specs.Key.{condition_key, condition_cmp}
 use Rattle.cargo_platform.specs.Facts.{IsTrueCondition}
-use Rattle.exact_answers.specs.declared.known.Known.{Known}
+use Rattle.exact_answers.specs.declared.fact_constraints.FactConstraints.{FactConstraints}
 use Rattle.exact_answers.specs.Asking.{NeedsMore}
 use Rattle.exact_answers.specs.Targets.{ForEach, asked_trees}
 use Rattle.manifest_lints.specs.declared.earlier.Earlier.{Earlier}
@@ -75,16 +75,16 @@ Notes old new n p = NotesBy (noted old p) old new n (condition_of p.now)
 
 -- ---- equivalent conditions
 
-abbrev pub AreEquivalent : Known → Condition → Condition → Type 0
+abbrev pub AreEquivalent : FactConstraints → Condition → Condition → Type 0
 AreEquivalent k c d = ForEach k (λ name s. IsTrueCondition name s c ↔ IsTrueCondition name s d)
 
 -- a condition that later ones are compared with, of the key at this index, is equivalent
-abbrev pub HasEquivalentMember : Known → Keys → Condition → ℕ → Type 0
+abbrev pub HasEquivalentMember : FactConstraints → Keys → Condition → ℕ → Type 0
 HasEquivalentMember k keys c n =
     Any (λ m. (m.0 ≡ n) × AreEquivalent k (condition_of m.1.now) c) keys.members.items
 
 -- the reason why it may not be known whether one of them is: there are too few case splits for one, or too many of them
-abbrev pub MayBeUndecided : Known → Option ℕ → Keys → Condition → Type 0
+abbrev pub MayBeUndecided : FactConstraints → Option ℕ → Keys → Condition → Type 0
 MayBeUndecided k None keys c = Unit {0}
 MayBeUndecided k (Some splits) keys c =
     Any (λ m. NeedsMore k (asked_trees (condition_of m.1.now ∷ c ∷ [])) splits) keys.members.items
@@ -94,10 +94,10 @@ MayBeUndecided k (Some splits) keys c =
 abbrev pub TellsNoSame : Earlier → Type 0
 TellsNoSame r = same_place r ≡ None
 
-abbrev pub TellsEquivalent : Known → Keys → Condition → Earlier → Type 0
+abbrev pub TellsEquivalent : FactConstraints → Keys → Condition → Earlier → Type 0
 TellsEquivalent k keys c r = IfSome (equivalent_place r) (HasEquivalentMember k keys c)
 
-abbrev pub TellsUndecided : Known → Option ℕ → Keys → Condition → Earlier → Type 0
+abbrev pub TellsUndecided : FactConstraints → Option ℕ → Keys → Condition → Earlier → Type 0
 TellsUndecided k budget keys c r = IsTrue (is_undecided r) → MayBeUndecided k budget keys c
 
 -- ---- the conditions that are compared
@@ -110,7 +110,7 @@ abbrev pub IsMemberAt : Keys → Member → ℕ → Type 0
 IsMemberAt keys m n = (n < length keys.members.items) × ((other : Member) → get_or keys.members.items n other ≡ m)
 
 -- none of those with these indexes is equivalent
-abbrev pub NoneIsEquivalent : Known → Keys → Condition → List ℕ → Type 0
+abbrev pub NoneIsEquivalent : FactConstraints → Keys → Condition → List ℕ → Type 0
 NoneIsEquivalent k keys c ns =
     All (λ n. (m : Member) → IsMemberAt keys m n → AreEquivalent k (condition_of m.1.now) c → ⊥) ns
 
@@ -132,7 +132,7 @@ part_of class (Some number) = record class { part = parts.Numbered number }
 part_of class None = record class { part = parts.NotNumbered }
 
 -- if the result says that a key is unlike those of a class, none of them is equivalent
-abbrev pub TellsUnlike : Known → Keys → Condition → Class → Earlier → Type 0
+abbrev pub TellsUnlike : FactConstraints → Keys → Condition → Class → Earlier → Type 0
 TellsUnlike k keys c class r = IsTrue (is_unlike r) → NoneIsEquivalent k keys c (places_of keys class)
 
 -- none is added to these, or one

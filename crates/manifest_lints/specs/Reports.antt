@@ -9,7 +9,7 @@ use Rattle.cargo_platform.specs.Nesting.{IsNestedBeyond}
 use Rattle.cargo_platform.specs.Platforms.{IsConditionText}
 use Rattle.cargo_platform.specs.Print.{print_condition}
 use Rattle.toml.specs.Data.{Members}
-use Rattle.exact_answers.specs.declared.known.Known.{Known}
+use Rattle.exact_answers.specs.declared.fact_constraints.FactConstraints.{FactConstraints}
 use Rattle.exact_answers.specs.Asking.{NeedsMore}
 use Rattle.exact_answers.specs.Targets.{asked_trees}
 use Rattle.manifests.specs.Declarations.{DeclaredEntry, IsDeclaredBy}
@@ -69,7 +69,7 @@ AreTooLong es text = WORK < length es * (bytes_of es + length text)
 -- the reason why something may be left open about a key after others that is a condition: too many parentheses are
 -- nested, or too many names and keys are open; there are too few case splits for the condition, or for comparing it
 -- with that of a key before it; or there are too many keys before it, or too many for so many bytes
-pub data MayBeOpen (k : Known) (ds : List DeclaredEntry) (es : List Entry) (text : List ℕ) (c : Condition) : Type 0
+pub data MayBeOpen (k : FactConstraints) (ds : List DeclaredEntry) (es : List Entry) (text : List ℕ) (c : Condition) : Type 0
   where
     too_deep : IsNestedBeyond text LEVELS → MayBeOpen k ds es text c
     many_open : MANY < length (open_in (classified_in ds c)) → MayBeOpen k ds es text c
@@ -80,7 +80,7 @@ pub data MayBeOpen (k : Known) (ds : List DeclaredEntry) (es : List Entry) (text
 
 -- whether a lint applies to a key after others that is a condition, about which something is left open or not, given
 -- the knowledge about each target and the declarations
-abbrev pub Holds : Known → List DeclaredEntry → List Entry → Entry → Condition → Bool → Code → Bool → Type 0
+abbrev pub Holds : FactConstraints → List DeclaredEntry → List Entry → Entry → Condition → Bool → Code → Bool → Type 0
 Holds k ds es e c is_open code.Refused b = b ≡ false
 Holds k ds es e c is_open code.NoTable b = b ≡ is_no_table e.1
 Holds k ds es e c is_open code.ReadOtherwise b = b ≡ has_marked_literal (classified_in ds c)
@@ -105,7 +105,7 @@ HoldsUnspelled is_refused e _ b = b ≡ false
 
 -- the lints that apply to a key that is a condition, after keys of which those at some indexes are left open; the
 -- earlier key that is named, and whether something is left open; and the same for a key that is not a condition
-pub record IsFoundSpelled (k : Known) (ds : List DeclaredEntry) (es : List Entry) (ns : List ℕ) (e : Entry)
+pub record IsFoundSpelled (k : FactConstraints) (ds : List DeclaredEntry) (es : List Entry) (ns : List ℕ) (e : Entry)
     (codes : CodeSet) (earlier : Earlier) (is_open : Bool) : Type 0 where
   pub condition : Condition
   pub spelled : IsConditionText e.0 condition
@@ -122,7 +122,7 @@ pub record IsFoundUnspelled (e : Entry) (codes : CodeSet) (earlier : Earlier) (i
   pub unlike : earlier ≡ Unlike
   pub settled : is_open ≡ false
 
-abbrev pub IsFound : Known → List DeclaredEntry → List Entry → List ℕ → Entry → CodeSet → Earlier → Bool → Type 0
+abbrev pub IsFound : FactConstraints → List DeclaredEntry → List Entry → List ℕ → Entry → CodeSet → Earlier → Bool → Type 0
 IsFound k ds es ns e codes earlier is_open =
     IsFoundSpelled k ds es ns e codes earlier is_open ⊎ IsFoundUnspelled e codes earlier is_open
 
@@ -178,7 +178,7 @@ pub record AreTold (ds : List DeclaredEntry) (es : List Entry) (e : Entry) (code
 
 -- the diagnostics on some keys are those that are reported on each, in the order of the keys, and the indexes are those
 -- of the keys that are left open
-pub data AreFindingsOn (k : Known) (ds : List DeclaredEntry) : List Entry → List Finding → List ℕ → Type 0 where
+pub data AreFindingsOn (k : FactConstraints) (ds : List DeclaredEntry) : List Entry → List Finding → List ℕ → Type 0 where
   on_none : AreFindingsOn k ds [] [] []
   on_more : (es : List Entry) (e : Entry) (codes : CodeSet) (earlier : Earlier) (is_open : Bool)
       (fs told : List Finding) (ns : List ℕ) → AreFindingsOn k ds es fs ns
@@ -187,7 +187,7 @@ pub data AreFindingsOn (k : Known) (ds : List DeclaredEntry) : List Entry → Li
 
 -- the same, given the knowledge about each target
 abbrev pub AreFindings : List DeclaredEntry → List Entry → List Finding → List ℕ → Type 0
-AreFindings ds es fs ns = (k : Known) × (AllowsRustcs k × AreFindingsOn k ds es fs ns)
+AreFindings ds es fs ns = (k : FactConstraints) × (AllowsRustcs k × AreFindingsOn k ds es fs ns)
 
 -- the old diagnostics are followed by those with these marks, which name this other key, and show the properties of the
 -- key

@@ -2,7 +2,7 @@
 use Rattle.std.specs.Prelude.{◌↔◌, [], map}
 use Rattle.cargo_platform.specs.Facts.{FactSet, fact_set}
 use Rattle.partial_facts.specs.declared.one_valued.TheConstants.{ONE_VALUED}
-use Rattle.exact_answers.specs.declared.known.Known.{Known}
+use Rattle.exact_answers.specs.declared.fact_constraints.FactConstraints.{FactConstraints}
 use Rattle.exact_answers.specs.Possible.{HasOneValue, IsAllowed}
 use Rattle.exact_answers.specs.Families.{KeepsFamilyRule}
 
@@ -12,5 +12,5 @@ abbrev pub IsRustcs : FactSet → Type 0
 IsRustcs s = HasOneValue (fact_set []) (map (λ t. t.now) ONE_VALUED.now) s × KeepsFamilyRule s
 
 -- these sets are possible, and no others
-abbrev pub AllowsRustcs : Known → Type 0
+abbrev pub AllowsRustcs : FactConstraints → Type 0
 AllowsRustcs k = (s : FactSet) → IsAllowed k s ↔ IsRustcs s

@@ -6,7 +6,7 @@ use Rattle.cargo_platform.specs.declared.Platform.{Platform}
 use Rattle.cargo_platform.specs.Trees.{Condition, condition_of}
 use Rattle.cargo_platform.specs.Key.{condition_key}
 use Rattle.cargo_platform.specs.Platforms.{IsConditionText}
-use Rattle.exact_answers.specs.declared.known.Known.{Known}
+use Rattle.exact_answers.specs.declared.fact_constraints.FactConstraints.{FactConstraints}
 use Rattle.manifest_lints.specs.declared.earlier.Earlier.{Earlier}
 use Rattle.manifest_lints.specs.declared.earlier.Earlier.TheVariants as earlier
 use Rattle.manifest_lints.specs.declared.earlier.Keys.{Keys}
@@ -53,7 +53,7 @@ AreNoted es keys = (q : Bor Platform) → IsFirst (IsSameAs (condition_of q.now)
 -- ---- equivalent conditions
 
 -- one of the keys is a condition that is equivalent to this one on each possible target
-abbrev pub HasEquivalent : Known → List Entry → Condition → Type 0
+abbrev pub HasEquivalent : FactConstraints → List Entry → Condition → Type 0
 HasEquivalent k es c = HasOne (λ d. AreEquivalent k d c) es
 
 abbrev pub IsSpelledAt : List Entry → Condition → ℕ → Type 0
@@ -68,7 +68,7 @@ pub record AreMembers (es : List Entry) (keys : Keys) : Type 0 where
 
 -- the index that an answer names is that of the first key that is the same condition as this one, or that of a key
 -- whose condition is equivalent on each possible target
-abbrev pub NamesRightly : Known → List Entry → Condition → Earlier → Type 0
+abbrev pub NamesRightly : FactConstraints → List Entry → Condition → Earlier → Type 0
 NamesRightly k es c (earlier.Same n) = IsFirstAt (IsSameAs c) es n
 NamesRightly k es c (earlier.Equivalent n) = IsOneAt (λ d. AreEquivalent k d c) es n
 NamesRightly k es c earlier.Unlike = Unit {0}

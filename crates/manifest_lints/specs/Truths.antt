@@ -2,7 +2,7 @@
 use Rattle.std.specs.Prelude.{ℕ, ◌*◌, ◌/◌, max, Bool, true, false, cond, nat_le, List, [], ◌∷◌}
 use Rattle.cargo_platform.specs.Trees.{Condition}
 use Rattle.cargo_platform.specs.Facts.{FactSet, IsTrueCondition}
-use Rattle.exact_answers.specs.declared.known.Known.{Known}
+use Rattle.exact_answers.specs.declared.fact_constraints.FactConstraints.{FactConstraints}
 use Rattle.exact_answers.specs.Possible.{IsAllowed}
 use Rattle.exact_answers.specs.Asking.{NeedsMore}
 use Rattle.exact_answers.specs.Targets.{ForEach, asked_trees}
@@ -11,39 +11,39 @@ use Rattle.manifest_lints.specs.declared.deciding.Decided.{Decided}
 use Rattle.manifest_lints.specs.declared.deciding.Decided.TheVariants as decided
 
 -- it is true for no possible target
-abbrev pub IsNever : Known → Condition → Type 0
+abbrev pub IsNever : FactConstraints → Condition → Type 0
 IsNever k c = ForEach k (λ name s. IsTrueCondition name s c → ⊥)
 
 -- it is true for each possible target
-abbrev pub IsAlways : Known → Condition → Type 0
+abbrev pub IsAlways : FactConstraints → Condition → Type 0
 IsAlways k c = ForEach k (λ name s. IsTrueCondition name s c)
 
 -- it is true for some possible target, given by a name and a set of facts
-abbrev pub CanHold : Known → Condition → Type 0
+abbrev pub CanHold : FactConstraints → Condition → Type 0
 CanHold k c = (name : List ℕ) × (s : FactSet) × IsAllowed k s × IsTrueCondition name s c
 
 -- it is false for some possible target
-abbrev pub CanFail : Known → Condition → Type 0
+abbrev pub CanFail : FactConstraints → Condition → Type 0
 CanFail k c = (name : List ℕ) × (s : FactSet) × IsAllowed k s × (IsTrueCondition name s c → ⊥)
 
 -- it can have this truth value
-abbrev pub CanBe : Bool → Known → Condition → Type 0
+abbrev pub CanBe : Bool → FactConstraints → Condition → Type 0
 CanBe true k c = CanHold k c
 CanBe false k c = CanFail k c
 
 -- the meaning of the answers to whether it is never true, and whether it always is
-abbrev pub SaysNever : Decided → Known → Condition → Type 0
+abbrev pub SaysNever : Decided → FactConstraints → Condition → Type 0
 SaysNever decided.Yes k c = IsNever k c
 SaysNever decided.No k c = CanHold k c
 SaysNever decided.Unknown k c = Unit {0}
 
-abbrev pub SaysAlways : Decided → Known → Condition → Type 0
+abbrev pub SaysAlways : Decided → FactConstraints → Condition → Type 0
 SaysAlways decided.Yes k c = IsAlways k c
 SaysAlways decided.No k c = CanFail k c
 SaysAlways decided.Unknown k c = Unit {0}
 
 -- the same for whether it never has this truth value
-abbrev pub SaysNeverIs : Bool → Decided → Known → Condition → Type 0
+abbrev pub SaysNeverIs : Bool → Decided → FactConstraints → Condition → Type 0
 SaysNeverIs true d k c = SaysNever d k c
 SaysNeverIs false d k c = SaysAlways d k c
 
@@ -62,5 +62,5 @@ abbrev pub budget_of : ℕ → ℕ
 budget_of facts = cond (nat_le facts FEW) SPLITS (max (SPLITS * 64 / facts) 8)
 
 -- so many case splits are too few for the condition
-abbrev pub NeedsMoreFor : Known → Condition → ℕ → Type 0
+abbrev pub NeedsMoreFor : FactConstraints → Condition → ℕ → Type 0
 NeedsMoreFor k c budget = NeedsMore k (asked_trees (c ∷ [])) budget

@@ -10,7 +10,7 @@ ghost use Rattle.manifest_lints.specs.AtTargets.{SettlesOn};
 
 use crate::deciding::{Decided, FEW, is_always, is_never, is_yes};
 use cargo_platform::{CfgExpr, Platform};
-use exact_answers::Known;
+use exact_answers::FactConstraints;
 use known_targets::{OpenTarget, TargetSet, certainly_matching, possibly_matching};
 use partial_facts::residual_platform;
 use std::alloc::{AllocError, Global};
@@ -26,7 +26,7 @@ pub const SPLITS_AT: u64 = 64;
 fn never_free<'a>(
     alloc: Global,
     platform: &'a Platform,
-    known: &'a Known<'a>,
+    known: &'a FactConstraints<'a>,
     truth: bool,
 ) -> Result<Decided, AllocError>
     ensures { KnowsNothing known.now → IfOk result (λ d. SaysNeverFree truth d (condition_of platform.now)) }
@@ -51,7 +51,7 @@ fn never_at(
 {
     let left = residual_platform(alloc, platform, Some(at.target.name()), &at)?;
     let assumed = CfgExpr::True;
-    let known = Known {
+    let known = FactConstraints {
         facts: &[],
         complete: &[],
         single: &[],

@@ -25,7 +25,7 @@ use crate::at_targets::{MANY, nowhere_and_everywhere};
 use crate::deciding::{budget_for, either, may_search, never_and_always};
 use crate::earlier::{Earlier, Keys};
 use cargo_platform::Platform;
-use exact_answers::Known;
+use exact_answers::FactConstraints;
 use manifest_lints_findings::Code;
 use manifest_lints_findings::known_keys::KnownKey;
 use manifest_lints_findings::readings::{KeyMeaning, ReadKey};
@@ -39,7 +39,7 @@ pub struct LintContext<'a> {
     /// The declarations of the manifest.
     pub declared: &'a Declared<'a>,
     /// The knowledge of the facts of each target.
-    pub known: &'a Known<'a>,
+    pub known: &'a FactConstraints<'a>,
     /// Whether the keys so far are too many and too long to be compared.
     pub is_too_much: bool,
 }

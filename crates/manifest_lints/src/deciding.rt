@@ -9,7 +9,7 @@ ghost use Rattle.manifest_lints.specs.Truths.{IsNever, IsAlways, CanHold, CanFai
 
 use crate::shown_by_samples::is_shown;
 use cargo_platform::{Platform, nesting_beyond};
-use exact_answers::{CanSelect, Known, MustSelect, always_platform, can_hold_platform};
+use exact_answers::{CanSelect, FactConstraints, MustSelect, always_platform, can_hold_platform};
 use std::alloc::{AllocError, Global};
 
 /// The maximum number of case splits in a search for a condition of at most `FEW` facts. With more facts it is lower.
@@ -80,7 +80,7 @@ pub fn budget_for(facts: usize) -> u64
 pub fn is_never<'a>(
     alloc: Global,
     platform: &'a Platform,
-    known: &'a Known<'a>,
+    known: &'a FactConstraints<'a>,
     budget: u64,
 ) -> Result<Decided, AllocError>
     ensures says { IfOk result (λ d. SaysNever d known.now (condition_of platform.now)) }
@@ -99,7 +99,7 @@ pub fn is_never<'a>(
 pub fn is_always<'a>(
     alloc: Global,
     platform: &'a Platform,
-    known: &'a Known<'a>,
+    known: &'a FactConstraints<'a>,
     budget: u64,
 ) -> Result<Decided, AllocError>
     ensures says { IfOk result (λ d. SaysAlways d known.now (condition_of platform.now)) }
@@ -117,7 +117,7 @@ pub fn is_always<'a>(
 fn unless_shown(
     alloc: Global,
     platform: &Platform,
-    known: &Known<'_>,
+    known: &FactConstraints<'_>,
     truth: bool,
 ) -> Result<Decided, AllocError>
     ensures { IfOk result (λ d. SaysNeverIs truth d known.now (condition_of platform.now)) }
@@ -132,7 +132,7 @@ fn unless_shown(
 fn settled<'a>(
     alloc: Global,
     platform: &'a Platform,
-    known: &'a Known<'a>,
+    known: &'a FactConstraints<'a>,
     budget: u64,
 ) -> Result<(Decided, Decided), AllocError>
     ensures never { IfOk result (λ d. SaysNever d.0 known.now (condition_of platform.now)) }
@@ -153,7 +153,7 @@ fn settled<'a>(
 pub fn never_and_always<'a>(
     alloc: Global,
     platform: &'a Platform,
-    known: &'a Known<'a>,
+    known: &'a FactConstraints<'a>,
     budget: u64,
     may_search: bool,
 ) -> Result<(bool, bool, bool), AllocError>

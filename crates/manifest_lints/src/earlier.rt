@@ -14,7 +14,7 @@ ghost use Rattle.manifest_lints.specs.Classes.{TellsNoneEquivalent};
 
 use crate::sample_sets::{beyond_targets, truths};
 use cargo_platform::{CfgExpr, Platform};
-use exact_answers::{Known, MustSelect, equivalent_platform};
+use exact_answers::{FactConstraints, MustSelect, equivalent_platform};
 use known_targets::{WORDS, matching};
 use std::alloc::{AllocError, Global};
 use std::collections::BTreeMap;
@@ -130,7 +130,7 @@ impl<'a> Keys<'a> {
         alloc: Global,
         index: usize,
         platform: &'a Platform,
-        known: &'a Known<'a>,
+        known: &'a FactConstraints<'a>,
         budget: Option<u64>,
     ) -> Result<Earlier, AllocError>
         ensures same { IfOk result (λ r. same_place r ≡ noted self.old platform.entry) }
@@ -170,7 +170,7 @@ impl<'a> Keys<'a> {
         alloc: Global,
         index: usize,
         platform: &'a Platform,
-        known: &'a Known<'a>,
+        known: &'a FactConstraints<'a>,
         budget: Option<u64>,
     ) -> Result<Earlier, AllocError>
         ensures other { IfOk result TellsNoSame }
@@ -222,7 +222,7 @@ impl<'a> Keys<'a> {
         class: Class,
         number: Option<u64>,
         platform: &'a Platform,
-        known: &'a Known<'a>,
+        known: &'a FactConstraints<'a>,
         budget: Option<u64>,
     ) -> Result<Earlier, AllocError>
         ensures other { IfOk result TellsNoSame }
@@ -245,7 +245,7 @@ impl<'a> Keys<'a> {
         class: Class,
         number: Option<u64>,
         platform: &'a Platform,
-        known: &'a Known<'a>,
+        known: &'a FactConstraints<'a>,
         budget: Option<u64>,
     ) -> Result<Earlier, AllocError>
         ensures other { IfOk result TellsNoSame }
@@ -271,7 +271,7 @@ impl<'a> Keys<'a> {
         alloc: Global,
         class: &Class,
         platform: &'a Platform,
-        known: &'a Known<'a>,
+        known: &'a FactConstraints<'a>,
         budget: Option<u64>,
     ) -> Result<Earlier, AllocError>
         ensures other { IfOk result TellsNoSame }

@@ -14,7 +14,7 @@ ghost use Rattle.manifests.specs.Tables.{target_of};
 
 use crate::checked_keys::{CheckedKey, LintContext, check_key};
 use crate::earlier::{Earlier, Keys, is_too_much};
-use exact_answers::{Known, ONE_VALUED, family_rule};
+use exact_answers::{FactConstraints, ONE_VALUED, family_rule};
 use manifest_lints_findings::findings::target_is_no_table;
 use manifest_lints_findings::making::finding_on;
 use manifest_lints_findings::readings::ReadKey;
@@ -156,7 +156,7 @@ fn report_on<'a>(
         × AreFindings ds (map entry_read r.keys.items) r.findings.items r.undecided.items) }
 {
     let rule = family_rule(alloc)?;
-    let known = Known {
+    let known = FactConstraints {
         facts: &[],
         complete: &[],
         single: ONE_VALUED,

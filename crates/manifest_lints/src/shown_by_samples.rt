@@ -11,7 +11,7 @@ ghost use Rattle.manifest_lints.specs.Doubled.{are_two, has_doubled, pairs_at};
 
 use crate::sample_sets::{holds_over, is_of_key, tried};
 use cargo_platform::{Cfg, Platform};
-use exact_answers::Known;
+use exact_answers::FactConstraints;
 use std::alloc::{AllocError, Global};
 
 /// Returns whether a sampled set of facts shows that the condition can have this truth value. Fails if memory is
@@ -19,7 +19,7 @@ use std::alloc::{AllocError, Global};
 pub fn is_shown(
     alloc: Global,
     platform: &Platform,
-    known: &Known<'_>,
+    known: &FactConstraints<'_>,
     truth: bool,
 ) -> Result<bool, AllocError>
     ensures { IfOk result (λ shown. IsTrue shown → CanBe truth known.now (condition_of platform.now)) }
@@ -41,7 +41,7 @@ fn is_same(first: bool, second: bool) -> bool
 
 /// Returns whether the facts are shown to be possible. They are not if some facts are listed, or names are complete.
 #[tactic(auto, using(crate::proofs::Tried::are_possible))]
-fn are_possible(facts: &[Cfg], known: &Known<'_>) -> bool
+fn are_possible(facts: &[Cfg], known: &FactConstraints<'_>) -> bool
     ensures { IsTrue result → IsAllowed known.now (fact_set (map value_of facts.now)) }
 {
     if !known.facts.is_empty() {

@@ -6,7 +6,7 @@ ghost use Rattle.cargo_platform.specs.Facts.{truth};
 ghost use Rattle.callers.specs.Audits.{SaysCover};
 
 use cargo_platform::{Cfg, CfgExpr};
-use exact_answers::{Known, MustHold, implies};
+use exact_answers::{FactConstraints, MustHold, implies};
 use std::alloc::{AllocError, Global};
 
 /// The result of comparing a condition with one that is audited already.
@@ -25,7 +25,7 @@ pub fn is_covered<'a>(
     alloc: Global,
     e: &'a CfgExpr,
     audited: &'a CfgExpr,
-    known: &'a Known<'a>,
+    known: &'a FactConstraints<'a>,
     budget: u64,
 ) -> Result<Cover, AllocError>
     ensures { IfOk result (λ r. SaysCover r known.now (tree (tree_of e.now) (tree (tree_of audited.now) none))

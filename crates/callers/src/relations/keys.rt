@@ -7,7 +7,7 @@ ghost use Rattle.exact_answers.specs.Asking.{NeedsMore};
 ghost use Rattle.exact_answers.specs.Targets.{ForEach, IsExample, asked_trees};
 
 use cargo_platform::Platform;
-use exact_answers::{Known, MustSelect, PossibleTarget, implies_platform};
+use exact_answers::{FactConstraints, MustSelect, PossibleTarget, implies_platform};
 use std::alloc::{AllocError, Global};
 
 /// The result of moving a dependency.
@@ -26,7 +26,7 @@ pub fn may_move<'a>(
     alloc: Global,
     from: &'a Platform,
     to: &'a Platform,
-    known: &'a Known<'a>,
+    known: &'a FactConstraints<'a>,
     budget: u64,
 ) -> Result<Move, AllocError>
     ensures safe { IfOk result (λ r. r ≡ Move.Safe → ForEach known.now

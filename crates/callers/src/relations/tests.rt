@@ -5,12 +5,12 @@ use super::keys::{Move, may_move};
 use super::linter::never_holds;
 use crate::support::expression;
 use cargo_platform::{CfgExpr, Platform};
-use exact_answers::Known;
+use exact_answers::FactConstraints;
 use std::alloc::Global;
 use std::process::Abort;
 
-fn known_by(assumed: &CfgExpr) -> Known<'_> {
-    Known {
+fn known_by(assumed: &CfgExpr) -> FactConstraints<'_> {
+    FactConstraints {
         facts: &[],
         complete: &[],
         single: &[],
@@ -59,7 +59,7 @@ fn assert_move(
     rt: &impl Abort,
     alloc: Global,
     keys: [&str; 2],
-    known: &Known<'_>,
+    known: &FactConstraints<'_>,
     budget: u64,
     wanted: &str,
 ) {

@@ -9,7 +9,7 @@ use Rattle.partial_facts.specs.Partly.{told_by, IsPartlyKnown}
 use Rattle.exact_answers.specs.Goals.{IsAsTold}
 use Rattle.exact_answers.specs.Possible.{HasOneValue, is_ruled_out}
 use Rattle.exact_answers.specs.Asking.{is_pair}
-use Rattle.exact_answers.specs.declared.known.Known.{Known}
+use Rattle.exact_answers.specs.declared.fact_constraints.FactConstraints.{FactConstraints}
 use Rattle.exact_answers.specs.declared.path.Split.{Split}
 use Rattle.exact_answers.specs.declared.path.Path.{Path}
 
@@ -92,7 +92,7 @@ turned [] = None
 turned (d ∷ ds) = if d.holds then turned ds else Some (record d { holds = true } ∷ ds)
 
 -- what a value of the program stands for
-abbrev pub base_of : Known → Base
+abbrev pub base_of : FactConstraints → Base
 base_of k = record {
   listed = map pair_of (map value_of k.facts.now);
   complete = map (λ t. t.now) k.complete.now;

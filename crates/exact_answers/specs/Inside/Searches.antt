@@ -13,7 +13,7 @@ use Rattle.exact_answers.specs.Inside.Paths.{turns, WereOpen}
 use Rattle.exact_answers.specs.Possible.{IsAllowed}
 use Rattle.exact_answers.specs.Asking.{some_asks, one_if, HasAll, NeedsMore}
 use Rattle.exact_answers.specs.Answers.{IsUnmarked, IsFactOfExample}
-use Rattle.exact_answers.specs.declared.known.Known.{Known}
+use Rattle.exact_answers.specs.declared.fact_constraints.FactConstraints.{FactConstraints}
 use Rattle.exact_answers.specs.declared.path.Path.{Path}
 use Rattle.exact_answers.specs.declared.goal_diagrams.making.Goal.{Goal}
 use Rattle.exact_answers.specs.declared.diagram.End.{End}
@@ -78,7 +78,7 @@ SaysFoundAmong A F found.Nothing P Q R = (s : FactSet) → A s → Q s
 SaysFoundAmong A F found.Undecided P Q R = R
 
 -- what became of a search among the possible sets, on the expressions es
-abbrev pub SaysFound : Found → Known → Trees → ℕ → (FactSet → Type 0) → (FactSet → Type 0) → Type 0
+abbrev pub SaysFound : Found → FactConstraints → Trees → ℕ → (FactSet → Type 0) → (FactSet → Type 0) → Type 0
 SaysFound r k es budget P Q =
     SaysFoundAmong (λ s. IsAllowed k s) (λ c. IsFactOfExample k es c) r P Q (NeedsMore k es budget)
 
@@ -109,13 +109,13 @@ Ends found.Nothing p budget = turns p ≡ []
 Ends found.Undecided p budget = p.made ≡ budget
 
 -- the path is over what is known, and its pairs were open and are asked for
-pub record IsPathOf (p : Path) (k : Known) (es : Trees) : Type 0 where
+pub record IsPathOf (p : Path) (k : FactConstraints) (es : Trees) : Type 0 where
   pub known : p.known.now ≡ k
   pub were_open : WereOpen (base_of k) (turns p)
   pub asked : AreAsked es (turns p)
 
 -- what a diagram tells: a path on which the goals are met, or that no possible set meets them
-abbrev pub SaysEnd : End → Known → List Goal → Type 0
+abbrev pub SaysEnd : End → FactConstraints → List Goal → Type 0
 SaysEnd (end.Met p) k gs = IsPathOf p k (goal_trees gs) × AreMet (base_of k) gs (turns p)
 SaysEnd end.Missed k gs = AreMissed (base_of k) gs []
 

@@ -9,7 +9,7 @@ use Rattle.exact_answers.specs.Asking.{NeedsMore}
 use Rattle.exact_answers.specs.Answers.{OverEach}
 use Rattle.exact_answers.specs.Targets.{IsExample, asked_trees}
 use Rattle.exact_answers.specs.Inside.Searches.{SaysFound}
-use Rattle.exact_answers.specs.declared.known.Known.{Known}
+use Rattle.exact_answers.specs.declared.fact_constraints.FactConstraints.{FactConstraints}
 use Rattle.exact_answers.specs.declared.search.Found.{Found}
 use Rattle.exact_answers.specs.declared.search.Found.TheVariants as found
 use Rattle.exact_answers.specs.declared.platforms.Question.{Question}
@@ -32,13 +32,13 @@ is_name_of (Expression e) name = false
 
 -- two conditions, the truths that are wanted of them, and what is known
 pub record Wanted : Type 0 where
-  pub known : Known
+  pub known : FactConstraints
   pub first : Condition
   pub first_wanted : Bool
   pub second : Condition
   pub second_wanted : Bool
 
-abbrev pub wants : Known → Condition → Bool → Condition → Bool → Wanted
+abbrev pub wants : FactConstraints → Condition → Bool → Condition → Bool → Wanted
 wants k a v b w = record { known = k; first = a; first_wanted = v; second = b; second_wanted = w }
 
 -- what a value of the program stands for

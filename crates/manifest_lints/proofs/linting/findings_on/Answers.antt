@@ -2,7 +2,7 @@ use Rattle.std.proofs.Common.{◌≡◌, ◌∙◌, refl, sym, ap, subst, ℕ, L
 use Rattle.std.proofs.Common.{arith, ◌+◌, ◌≤◌, IsTrue}
 use Rattle.std.proofs.lemmas.List.{length-map, length-take-le}
 use Rattle.std.specs.List.{All}
-use Rattle.exact_answers.specs.declared.known.Known.{Known}
+use Rattle.exact_answers.specs.declared.fact_constraints.FactConstraints.{FactConstraints}
 use Rattle.manifests.specs.Declarations.{DeclaredEntry, declarations_of}
 use Rattle.manifest_lints_findings.specs.declared.findings.Finding.{Finding}
 use Rattle.manifest_lints_findings.specs.declared.readings.ReadKey.{ReadKey}
@@ -20,7 +20,7 @@ use Rattle.manifest_lints.proofs.Missed.{none_covered}
 use Rattle.manifest_lints.proofs.Reports.{one_more, next_entries}
 use Rattle.manifest_lints.proofs.linting.findings_on.Goals as goal
 
-none_yet : (k : Known) (ds : List DeclaredEntry) (fs : List Finding) (ns : List ℕ) → fs ≡ [] → ns ≡ []
+none_yet : (k : FactConstraints) (ds : List DeclaredEntry) (fs : List Finding) (ns : List ℕ) → fs ≡ [] → ns ≡ []
     → AreFindingsOn k ds [] fs ns
 none_yet k ds fs ns is open_is =
     subst (λ gs. AreFindingsOn k ds [] gs ns) (sym is) (subst (AreFindingsOn k ds [] []) (sym open_is) on_none)

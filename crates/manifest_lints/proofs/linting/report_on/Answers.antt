@@ -3,7 +3,7 @@ use Rattle.std.proofs.Common.{◌≡◌, ◌↔◌, true, refl, sym, ap, subst, 
 use Rattle.std.specs.List.{All}
 use Rattle.cargo_platform.specs.Facts.{FactSet, truth}
 use Rattle.cargo_platform.specs.Trees.{tree_of}
-use Rattle.exact_answers.specs.declared.known.Known.{Known}
+use Rattle.exact_answers.specs.declared.fact_constraints.FactConstraints.{FactConstraints}
 use Rattle.exact_answers.specs.Families.{KeepsFamilyRule}
 use Rattle.partial_facts.specs.declared.one_valued.TheConstants.{ONE_VALUED}
 use Rattle.toml.specs.Data.{Members}
@@ -15,7 +15,7 @@ use Rattle.manifest_lints.specs.Reports.{Entry, AreFindings, AreFindingsOn}
 use Rattle.manifest_lints.proofs.Rustcs.{allows_rustcs}
 use Rattle.manifest_lints.proofs.linting.report_on.Goals as goal
 
-of_keys : (k : Known) (ms : Members) (ds : List DeclaredEntry) (es fs : List Entry) (found : List Finding) (ns : List ℕ)
+of_keys : (k : FactConstraints) (ms : Members) (ds : List DeclaredEntry) (es fs : List Entry) (found : List Finding) (ns : List ℕ)
     → AreFindingsOn k ds es found ns → IsDeclaredBy ms ds → es ≡ fs → k.facts.now ≡ [] → k.complete.now ≡ []
     → map (λ t. t.now) k.single.now ≡ map (λ t. t.now) ONE_VALUED.now
     → ((s : FactSet) → (truth s (tree_of k.assumed.now) ≡ true) ↔ KeepsFamilyRule s)

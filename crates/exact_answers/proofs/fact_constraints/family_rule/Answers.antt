@@ -3,7 +3,7 @@ use Rattle.cargo_platform.specs.Trees.{tree_of}
 use Rattle.cargo_platform.specs.Errors.{IfParse}
 use Rattle.cargo_platform.specs.declared.cfg.CfgExpr.{CfgExpr}
 use Rattle.exact_answers.proofs.Families.{rule_tree, is_well_formed, is_its_text, rule_truth}
-use Rattle.exact_answers.proofs.known.family_rule.Goals as goal
+use Rattle.exact_answers.proofs.fact_constraints.family_rule.Goals as goal
 
 pub returns-in-Ok-clause-sets : goal.returns-in-Ok-clause-sets
 returns-in-Ok-clause-sets c = λ s.

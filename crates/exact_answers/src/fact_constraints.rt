@@ -43,7 +43,7 @@ pub fn family_rule(alloc: Global) -> Result<CfgExpr, AllocError>
 ///
 /// Raw marks play no part.
 #[derive(Drop)]
-pub struct Known<'a> {
+pub struct FactConstraints<'a> {
     pub facts: &'a [Cfg],
     pub complete: &'a [&'a str],
     pub single: &'a [&'a str],
