@@ -7,7 +7,7 @@ use Rattle.cargo_platform.specs.FactLines.{SpellFacts}
 use Rattle.cargo_platform.specs.Lines.{lines_of}
 use Rattle.cargo_platform.specs.Platforms.{IsConditionText}
 use Rattle.byte_answers.specs.declared.outcome.TheConstants.{DONE, REFUSED, NOT_UTF8, NOT_FLAT, NO_MEMORY, TOO_DEEP}
-use Rattle.byte_answers.specs.Counted.{counted_texts}
+use Rattle.byte_answers.specs.LengthPrefixed.{with_lengths}
 use Rattle.byte_answers.specs.Depths.{IsTooDeep}
 use Rattle.byte_answers.specs.Outcomes.{IsWritten}
 
@@ -39,14 +39,14 @@ AreKeyAnswers name facts (key ∷ keys) (byte ∷ bytes) =
     IsKeyAnswer name facts key byte × AreKeyAnswers name facts keys bytes
 
 -- the bytes are texts, each preceded by its length
-abbrev pub AreCounted : List ℕ → Type 0
-AreCounted bytes = (texts : List (List ℕ)) × (counted_texts texts ≡ bytes)
+abbrev pub AreLengthPrefixed : List ℕ → Type 0
+AreLengthPrefixed bytes = (texts : List (List ℕ)) × (with_lengths texts ≡ bytes)
 
 -- the answers on these keys, each of which is preceded by its length, are written to the buffer
 abbrev pub AreAnswersAt : List ℕ → List ℕ → List ℕ → ℕ → List ℕ → List ℕ → Type 0
 AreAnswersAt keys name lines needed old new =
     (texts : List (List ℕ)) × ((facts : List CfgValue) × ((bytes : List ℕ)
-    × ((counted_texts texts ≡ keys) × SpellFacts (lines_of lines) facts
+    × ((with_lengths texts ≡ keys) × SpellFacts (lines_of lines) facts
     × AreKeyAnswers name facts texts bytes × IsWritten bytes needed old new)))
 
 -- the codes of a call on many keys

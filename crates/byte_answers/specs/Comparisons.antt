@@ -14,7 +14,7 @@ use Rattle.exact_answers.specs.Targets.{ForEach, IsExample, asked_trees}
 use Rattle.byte_answers.specs.declared.outcome.Outcome.{Outcome}
 use Rattle.byte_answers.specs.declared.relations.Relation.{Relation}
 use Rattle.byte_answers.specs.declared.relations.Relation.TheVariants.{Implies, Equivalent, Excludes}
-use Rattle.byte_answers.specs.Counted.{counted, counted_facts}
+use Rattle.byte_answers.specs.LengthPrefixed.{with_length, facts_with_lengths}
 use Rattle.byte_answers.specs.Outcomes.{IsWritten}
 
 -- no fact is known, and the possible sets keep rustc's rules: one value for the keys that have one, and families
@@ -37,9 +37,9 @@ Fails Equivalent A B = (A ↔ B) → ⊥
 Fails Excludes A B = A × B
 
 -- a name preceded by its length, if there is one
-abbrev pub counted_name : Option (String Global) → List ℕ
-counted_name None = []
-counted_name (Some name) = counted (string_bytes name)
+abbrev pub name_with_length : Option (String Global) → List ℕ
+name_with_length None = []
+name_with_length (Some name) = with_length (string_bytes name)
 
 abbrev pub has_name : Option (String Global) → Bool
 has_name None = false
@@ -49,7 +49,7 @@ has_name (Some name) = true
 abbrev pub IsWrittenExample : PossibleTarget → Outcome → List ℕ → List ℕ → Type 0
 IsWrittenExample t o old new =
     (o.is_named ≡ has_name t.name)
-    × IsWritten (counted_name t.name ++ counted_facts (map value_of t.facts.items)) o.needed old new
+    × IsWritten (name_with_length t.name ++ facts_with_lengths (map value_of t.facts.items)) o.needed old new
 
 -- P holds for a target that is possible, and that is written to the buffer
 abbrev pub HasExample : FactConstraints → List Condition → (List ℕ → FactSet → Type 0) → Outcome → List ℕ → List ℕ → Type 0

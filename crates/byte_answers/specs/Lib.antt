@@ -1,7 +1,7 @@
 pub mod Depths
 pub mod Outcomes
 pub mod Refusals
-pub mod Counted
+pub mod LengthPrefixed
 pub mod FactTexts
 pub mod Flat
 pub mod Pieces

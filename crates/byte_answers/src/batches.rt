@@ -4,8 +4,9 @@ ghost use Rattle.std.specs.Prelude.{◌≡◌, ◌≢◌, ◌*◌, ◌<◌, ◌+
 ghost use Rattle.std.specs.Prelude.{◌||◌, ◌==◌};
 ghost use Rattle.std.specs.Str.{IsUtf8};
 ghost use Rattle.cargo_platform.specs.Trees.{value_of};
-ghost use Rattle.byte_answers.specs.Batches.{AreAnswersAt, AreCounted, AreKeyAnswers, IsKeyAnswer, ends_batch_call};
-ghost use Rattle.byte_answers.specs.Counted.{counted, counted_texts};
+ghost use Rattle.byte_answers.specs.Batches.{AreAnswersAt, AreLengthPrefixed, AreKeyAnswers, IsKeyAnswer};
+ghost use Rattle.byte_answers.specs.Batches.{ends_batch_call};
+ghost use Rattle.byte_answers.specs.LengthPrefixed.{with_length, with_lengths};
 ghost use Rattle.byte_answers.specs.Outcomes.{HasNoAnswer, HasNoSpan, IsSilent};
 ghost use Rattle.byte_answers.specs.Refusals.{IsRefusedLine};
 
@@ -21,8 +22,8 @@ use std::str;
 /// Returns the first text, which its length precedes, and the bytes after it.
 fn first_text(bytes: &[u8]) -> Option<(&[u8], &[u8])>
     ensures { MatchOption result
-        ((text rest : List ℕ) → bytes.now ≡ counted text ++ rest → ⊥)
-        (λ p. bytes.now ≡ counted p.0.now ++ p.1.now) }
+        ((text rest : List ℕ) → bytes.now ≡ with_length text ++ rest → ⊥)
+        (λ p. bytes.now ≡ with_length p.0.now ++ p.1.now) }
 {
     let (size, rest) = bytes.split_at_checked(8)?;
     let (_front, length) = last_number(size)?;
@@ -62,8 +63,8 @@ fn answers_on(
     name: &str,
     facts: &[Cfg],
 ) -> Result<Option<Vec<u8>>, AllocError>
-    ensures { IfOk result (λ o. MatchOption o (AreCounted keys.now → ⊥)
-        (λ bytes. (texts : List (List ℕ)) × ((counted_texts texts ≡ keys.now)
+    ensures { IfOk result (λ o. MatchOption o (AreLengthPrefixed keys.now → ⊥)
+        (λ bytes. (texts : List (List ℕ)) × ((with_lengths texts ≡ keys.now)
         × AreKeyAnswers name.now (map value_of facts.now) texts bytes.items))) }
 {
     let mut left = keys;
@@ -92,7 +93,7 @@ pub fn match_keys(alloc: Global, keys: &[u8], name: &[u8], lines: &[u8], out: &m
     // in the lines, or twice the code of its call if the key has no answer.
     ensures done { result.code ≡ DONE → AreAnswersAt keys.now name.now lines.now result.needed out.old out.new }
     // `NOT_FLAT` is returned only for keys that are not texts, each preceded by its length; `argument` is 0.
-    ensures not_counted { result.code ≡ NOT_FLAT → AreCounted keys.now → ⊥ }
+    ensures not_length_prefixed { result.code ≡ NOT_FLAT → AreLengthPrefixed keys.now → ⊥ }
     ensures not_counted_keys { result.code ≡ NOT_FLAT → result.argument ≡ 0 }
     // `REFUSED` is returned only for lines of which one is not a fact, with the message and the span of the error in
     // the first such line; `argument` is 2.

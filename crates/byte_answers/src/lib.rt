@@ -5,7 +5,6 @@
 #![tactic(auto)]
 
 mod batches;
-mod counted;
 mod depth;
 mod fact_lines;
 mod fact_texts;
@@ -13,6 +12,7 @@ mod flat;
 mod keys;
 mod known;
 pub mod laws;
+mod length_prefixed;
 mod matching;
 mod outcome;
 mod prepared;

@@ -7,15 +7,15 @@ ghost use Rattle.cargo_platform.specs.Facts.{IsTrueCondition};
 ghost use Rattle.cargo_platform.specs.Platforms.{IsConditionText};
 ghost use Rattle.exact_answers.specs.Asking.{NeedsMore};
 ghost use Rattle.exact_answers.specs.Targets.{SaysMustSelect, SaysCanSelect, ForEach, asked_trees};
-ghost use Rattle.byte_answers.specs.Counted.{counted_facts};
-ghost use Rattle.byte_answers.specs.Comparisons.{Stands, Fails, counted_name, IsWrittenExample, HasExample};
+ghost use Rattle.byte_answers.specs.LengthPrefixed.{facts_with_lengths};
+ghost use Rattle.byte_answers.specs.Comparisons.{Stands, Fails, name_with_length, IsWrittenExample, HasExample};
 ghost use Rattle.byte_answers.specs.Comparisons.{SaysRelated, AreRelated, SaysPossible, IsPossibleKey};
 ghost use Rattle.byte_answers.specs.Comparisons.{NeedsLarger, AreUndecided, IsUndecided};
 ghost use Rattle.byte_answers.specs.Depths.{IsReadable, IsTooDeep};
 ghost use Rattle.byte_answers.specs.Outcomes.{HasNoAnswer, HasNoSpan, IsSilent, ends_comparison};
 ghost use Rattle.byte_answers.specs.Refusals.{IsRefusal};
 
-use crate::counted::{push_counted, push_facts};
+use crate::length_prefixed::{push_facts, push_with_length};
 use crate::outcome::{DONE, NO_MEMORY, NOT_UTF8, Outcome, REFUSED, TOO_DEEP, UNDECIDED, write};
 use crate::reading::read_condition;
 use cargo_platform::{CfgExpr, Platform};
@@ -39,11 +39,11 @@ pub enum Relation {
 /// Returns the texts of an example, each preceded by its length: its name, if it has one, and its facts.
 fn example_texts(alloc: Global, target: &PossibleTarget) -> Result<Vec<u8>, AllocError>
     ensures { IfOk result (λ texts. texts.items
-        ≡ counted_name target.now.name ++ counted_facts (map value_of target.now.facts.items)) }
+        ≡ name_with_length target.now.name ++ facts_with_lengths (map value_of target.now.facts.items)) }
 {
     let mut texts = Vec::new(alloc);
     if let Some(name) = &target.name {
-        push_counted(&mut texts, name.as_str())?;
+        push_with_length(&mut texts, name.as_str())?;
     }
     push_facts(alloc, &mut texts, &target.facts)?;
     Ok(texts)

@@ -7,8 +7,8 @@ ghost use Rattle.exact_answers.specs.Goals.{true_as_wanted};
 ghost use Rattle.exact_answers.specs.Inside.Paths.{base_of};
 ghost use Rattle.exact_answers.specs.Inside.Searches.{Searched, IsMetBy};
 
-use crate::goal_diagrams::{Goal, as_wanted};
 use crate::fact_constraints::FactConstraints;
+use crate::goal_diagrams::{Goal, as_wanted};
 use crate::path::Path;
 use crate::search::{Found, search};
 use cargo_platform::{Cfg, CfgExpr};

@@ -8,8 +8,8 @@ ghost use Rattle.exact_answers.specs.Inside.Paths.{base_of};
 ghost use Rattle.exact_answers.specs.Inside.Searches.{goal_trees, AreMissed, IsPathOf, SaysEnd};
 ghost use Rattle.exact_answers.specs.Inside.Ahead.{AreAmong};
 
-use crate::goal_diagrams::{Choice, Goal, Outcome, find_choices};
 use crate::fact_constraints::FactConstraints;
+use crate::goal_diagrams::{Choice, Goal, Outcome, find_choices};
 use crate::path::Path;
 use crate::search::{Step, next_step};
 use cargo_platform::Cfg;

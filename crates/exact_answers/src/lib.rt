@@ -7,18 +7,20 @@
 //! is also tried by a decision diagram.
 #![tactic(auto)]
 
-mod answers;
 mod assuming;
 mod diagram;
-pub mod goal_diagrams;
+mod expressions;
 mod fact_constraints;
+pub mod goal_diagrams;
 mod opening;
 mod outlook;
 mod path;
 mod platforms;
 mod search;
 
-pub use answers::{CanHold, MustHold, always, can_be_met, can_hold, equivalent, exclude, implies};
+pub use expressions::{
+    CanHold, MustHold, always, can_be_met, can_hold, equivalent, exclude, implies,
+};
 pub use fact_constraints::{FAMILY_RULE, FactConstraints, family_rule};
 pub use partial_facts::ONE_VALUED;
 pub use platforms::{

@@ -8,7 +8,7 @@ ghost use Rattle.exact_answers.specs.Targets.{SaysCanSelect, SaysMustSelect};
 ghost use Rattle.exact_answers.specs.Inside.Targets.{tree_under, is_name_of, wants, wanted_of, SaysFoundUnder};
 ghost use Rattle.exact_answers.specs.Inside.Targets.{with_name, or_undecided, as_can, as_must, SaysTarget};
 
-use crate::answers::search_both;
+use crate::expressions::search_both;
 use crate::fact_constraints::FactConstraints;
 use crate::search::Found;
 use cargo_platform::{Cfg, CfgExpr, Platform};

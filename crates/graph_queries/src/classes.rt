@@ -4,8 +4,7 @@ use crate::edges::edges_of;
 use crate::graph::Graph;
 use crate::query::GraphQuery;
 use cargo_platform::{Cfg, values_of};
-use known_targets::TargetSet;
-use known_targets::classes::classes;
+use known_targets::{TargetSet, classes};
 use selected_targets::Finder;
 use std::alloc::{AllocError, Global};
 

@@ -7,7 +7,8 @@ use crate::printing::shown_example;
 use crate::work::{Keys, splits_within};
 use cargo_platform::{CfgExpr, Platform};
 use exact_answers::{
-    FactConstraints, MustSelect, ONE_VALUED, PossibleTarget, exclude_platform, family_rule, implies_platform,
+    FactConstraints, MustSelect, ONE_VALUED, PossibleTarget, exclude_platform, family_rule,
+    implies_platform,
 };
 use known_targets::{COUNT, TargetSet, matching};
 use std::alloc::{AllocError, Global};

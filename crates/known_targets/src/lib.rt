@@ -4,12 +4,13 @@
 //! flags' defaults. `debug_assertions`, `panic` and `target_feature` are changed by profiles and flags.
 #![tactic(auto)]
 
-pub mod classes;
-mod conditions;
+mod classes;
+pub mod conditions;
 mod known;
 mod known_facts;
 pub mod laws;
 mod listing;
+mod matching;
 mod members;
 mod open_target;
 mod rows;
@@ -18,9 +19,10 @@ mod target_set;
 mod views;
 mod walk;
 
-pub use conditions::{certainly_matching, having, matching, possibly_matching};
+pub use classes::classes;
 pub use known::KnownTarget;
 pub use known_facts::{KnownFact, all_facts};
+pub use matching::{certainly_matching, having, matching, possibly_matching};
 pub use members::Targets;
 pub use open_target::OpenTarget;
 pub use table::{COUNT, RUSTC_VERSION, WORDS};

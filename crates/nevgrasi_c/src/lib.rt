@@ -12,7 +12,7 @@ ghost use Rattle.cargo_platform.specs.Facts.{FactSet};
 ghost use Rattle.known_targets.specs.Table.{target_name};
 ghost use Rattle.byte_answers.specs.Answers.{AreFactsOf, AreTargets, IsCanonical, IsFlatMatch, IsFlatOf, IsMatch};
 ghost use Rattle.byte_answers.specs.Answers.{IsPrint};
-ghost use Rattle.byte_answers.specs.Batches.{AreAnswersAt, AreCounted, ends_batch_call};
+ghost use Rattle.byte_answers.specs.Batches.{AreAnswersAt, AreLengthPrefixed, ends_batch_call};
 ghost use Rattle.byte_answers.specs.Comparisons.{AreRelated, AreUndecided, IsPossibleKey, IsUndecided};
 ghost use Rattle.byte_answers.specs.Depths.{IsReadable, IsTooDeep};
 ghost use Rattle.byte_answers.specs.Flat.{IsFlatForm, AreFlatFacts};
@@ -160,7 +160,7 @@ pub extern "C" fn nevgrasi_match_keys(
     outcome: &mut Outcome,
 ) -> u32
     ensures done { result ≡ DONE → AreAnswersAt keys.now name.now lines.now outcome.new.needed out.old out.new }
-    ensures not_counted { result ≡ NOT_FLAT → AreCounted keys.now → ⊥ }
+    ensures not_length_prefixed { result ≡ NOT_FLAT → AreLengthPrefixed keys.now → ⊥ }
     ensures not_counted_keys { result ≡ NOT_FLAT → outcome.new.argument ≡ 0 }
     ensures refused { result ≡ REFUSED → IsRefusedLine lines.now outcome.new out.old out.new }
     ensures refused_lines { result ≡ REFUSED → outcome.new.argument ≡ 2 }

@@ -4,7 +4,7 @@ use crate::selected::{
     Fact, Selected, Selection, covering as covering_of, simple_condition, tried_facts,
 };
 use cargo_platform::{Cfg, Platform};
-use known_targets::classes::{Simple, covering};
+use known_targets::conditions::{Simple, covering};
 use known_targets::{KnownFact, KnownTarget, TargetSet, having};
 use std::alloc::{AllocError, Global};
 

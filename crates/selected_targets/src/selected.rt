@@ -1,10 +1,10 @@
 //! Conditions that are true on exactly some of the selected targets. They are built from the facts of these targets
-//! alone, as `known_targets::classes` builds conditions from the facts of all known targets, so that no part of them
+//! alone, as `known_targets::conditions` builds conditions from the facts of all known targets, so that no part of them
 //! tells apart what was not selected.
 
 use crate::groups::{Groups, is_at};
 use cargo_platform::{Cfg, CfgExpr, Platform};
-use known_targets::classes::Simple;
+use known_targets::conditions::Simple;
 use known_targets::{KnownTarget, TargetSet, having};
 use std::alloc::{AllocError, Global};
 use target_tables::TargetRow;

@@ -2,10 +2,9 @@
 
 use crate::row_facts;
 use cargo_platform::{Cfg, CfgExpr, FactIndex, Facts, Platform};
-use known_targets::classes::classes;
 use known_targets::{
     COUNT, KnownFact, KnownTarget, OpenTarget, RUSTC_VERSION, TargetSet, all_facts,
-    certainly_matching, having, matching, possibly_matching,
+    certainly_matching, classes, having, matching, possibly_matching,
 };
 use partial_facts::decide_platform;
 use std::alloc::{AllocError, Global};

@@ -65,7 +65,7 @@ fn way_from(alloc: Global, table: &Table, place: usize) -> Result<Outcome, Alloc
     if place == 0 {
         return Ok(Outcome::Nothing);
     }
-    let way = table.way(alloc, place)?;
+    let way = table.satisfying_choices(alloc, place)?;
     Ok(Outcome::Way(way))
 }
 

@@ -418,7 +418,7 @@ impl Table {
     }
 
     /// Returns choices over which a place is true. Only what is false over each set of facts has none.
-    pub fn way(&self, alloc: Global, place: usize) -> Result<Vec<Choice>, AllocError>
+    pub fn satisfying_choices(&self, alloc: Global, place: usize) -> Result<Vec<Choice>, AllocError>
         requires table { AreEarlier (nodes_of self.now) }
         requires place { place < places (nodes_of self.now) }
         requires not_false { place ≡ 0 → ⊥ }

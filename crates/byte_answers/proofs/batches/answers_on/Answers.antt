@@ -3,8 +3,8 @@ use Rattle.std.proofs.lemmas.Bool.{eqb-true}
 use Rattle.std.proofs.lemmas.List.{nil_from_length}
 use Rattle.cargo_platform.specs.Trees.{value_of}
 use Rattle.byte_answers.specs.Batches.{AreKeyAnswers}
-use Rattle.byte_answers.specs.Counted.{counted_texts}
-use Rattle.byte_answers.proofs.CountedTexts.{counted_size, no_texts, one_answered, one_read}
+use Rattle.byte_answers.specs.LengthPrefixed.{with_lengths}
+use Rattle.byte_answers.proofs.LengthPrefixedTexts.{with_length_size, no_texts, one_answered, one_read}
 use Rattle.byte_answers.proofs.Pieces.{not_zero}
 use Rattle.byte_answers.proofs.batches.answers_on.Goals as goal
 
@@ -26,7 +26,7 @@ returns-in_default c = λ counted.
 
 pub keys-smaller : goal.keys-smaller
 keys-smaller c =
-    omega (arith, ap length c.in-Some.ensures, counted_size c.in-Some.key.now c.in-Some.others.now)
+    omega (arith, ap length c.in-Some.ensures, with_length_size c.in-Some.key.now c.in-Some.others.now)
 
 pub keys-preserved : goal.keys-preserved
 keys-preserved c =
@@ -49,7 +49,7 @@ returns c =
     let empty = nil_from_length left (eqb-true (length left) 0 (sym c.is_empty.ensures ∙ c.keys-test.false)) in (
       inv.0,
       (
-        sym (inv.1.0 ∙ ap (λ (z : List ℕ). counted_texts inv.0 ++ z) empty ∙ append-nil (counted_texts inv.0)),
+        sym (inv.1.0 ∙ ap (λ (z : List ℕ). with_lengths inv.0 ++ z) empty ∙ append-nil (with_lengths inv.0)),
         inv.1.1,
       ),
     )

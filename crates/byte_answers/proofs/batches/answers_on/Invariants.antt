@@ -1,6 +1,6 @@
 use Rattle.std.proofs.Common.{length, map}
 use Rattle.cargo_platform.specs.Trees.{value_of}
-use Rattle.byte_answers.proofs.CountedTexts.{AreReadTo}
+use Rattle.byte_answers.proofs.LengthPrefixedTexts.{AreReadTo}
 use Rattle.byte_answers.proofs.batches.answers_on.Given as goal
 
 abbrev pub invariant-keys : goal.invariant-keys

@@ -1,5 +1,5 @@
 use Rattle.std.proofs.Common.{arith}
-use Rattle.byte_answers.proofs.CountedTexts.{cut, first_is, none_first, number_alone, too_few}
+use Rattle.byte_answers.proofs.LengthPrefixedTexts.{cut, first_is, none_first, number_alone, too_few}
 use Rattle.byte_answers.proofs.batches.first_text.Goals as goal
 
 pub returns-in_err-size : goal.returns-in_err-size

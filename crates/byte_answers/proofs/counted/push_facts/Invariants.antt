@@ -1,8 +1,0 @@
--- Each fact so far is after its length.
-use Rattle.std.proofs.Common.{◌≡◌, ◌++◌, map, take}
-use Rattle.cargo_platform.specs.Trees.{value_of}
-use Rattle.byte_answers.specs.Counted.{counted_facts}
-use Rattle.byte_answers.proofs.counted.push_facts.Given as goal
-
-abbrev pub invariant-loop-fact : goal.invariant-loop-fact
-invariant-loop-fact l = l.out.items ≡ l.initial.out.items ++ counted_facts (map value_of (take l.fact-index l.facts))

@@ -1,6 +1,0 @@
-use Rattle.std.proofs.Common.{take}
-use Rattle.known_targets.specs.Classes.{AreClasses}
-use Rattle.known_targets.proofs.classes.partition.classes.Given as goal
-
-abbrev pub invariant-sets : goal.invariant-sets
-invariant-sets l = AreClasses (take l.set-index l.sets) l.classes.items
