@@ -4,27 +4,27 @@
 //! flags' defaults. `debug_assertions`, `panic` and `target_feature` are changed by profiles and flags.
 #![tactic(auto)]
 
-mod classes;
 pub mod conditions;
 mod known;
 mod known_facts;
 pub mod laws;
 mod listing;
-mod matching;
+mod matching_targets;
 mod members;
 mod open_target;
+mod partition;
 mod rows;
 mod table;
 mod target_set;
 mod views;
 mod walk;
 
-pub use classes::classes;
 pub use known::KnownTarget;
 pub use known_facts::{KnownFact, all_facts};
-pub use matching::{certainly_matching, having, matching, possibly_matching};
+pub use matching_targets::{certainly_matching, having, matching, possibly_matching};
 pub use members::Targets;
 pub use open_target::OpenTarget;
+pub use partition::classes;
 pub use table::{COUNT, RUSTC_VERSION, WORDS};
 pub use target_set::TargetSet;
 pub use views::names;

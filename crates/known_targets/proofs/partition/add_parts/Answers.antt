@@ -1,5 +1,5 @@
 use Rattle.known_targets.proofs.Parting.{both_parts}
-use Rattle.known_targets.proofs.classes.add_parts.Goals as goal
+use Rattle.known_targets.proofs.partition.add_parts.Goals as goal
 
 pub returns : goal.returns
 returns c =

@@ -4,7 +4,7 @@ use Rattle.std.specs.List.{slice_index_or}
 use Rattle.known_targets.specs.Bits.{has}
 use Rattle.partial_facts.specs.Partly.{names_of}
 use Rattle.known_targets.specs.declared.table.TheConstants.{COUNT}
-use Rattle.known_targets.proofs.matching.named.Given as goal
+use Rattle.known_targets.proofs.matching_targets.named.Given as goal
 
 abbrev pub invariant-names : goal.invariant-names
 invariant-names l =

@@ -3,7 +3,7 @@ use Rattle.std.proofs.Common.{◌∙◌, sym}
 use Rattle.cargo_platform.specs.Trees.{condition_of}
 use Rattle.known_targets.specs.Table.{target_name, target_facts}
 use Rattle.known_targets.proofs.Taken.{closed}
-use Rattle.known_targets.proofs.matching.matching.Goals as goal
+use Rattle.known_targets.proofs.matching_targets.matching.Goals as goal
 
 pub returns : goal.returns
 returns c =

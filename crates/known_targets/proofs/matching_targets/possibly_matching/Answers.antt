@@ -4,7 +4,7 @@ use Rattle.partial_facts.specs.Partly.{names_of}
 use Rattle.known_targets.specs.Sets.{is_member}
 use Rattle.known_targets.specs.Table.{target_name, target_facts}
 use Rattle.known_targets.proofs.Taken.{holds_possibly}
-use Rattle.known_targets.proofs.matching.possibly_matching.Goals as goal
+use Rattle.known_targets.proofs.matching_targets.possibly_matching.Goals as goal
 
 pub returns-clause-sound : goal.returns-clause-sound
 returns-clause-sound c =

@@ -2,7 +2,7 @@ use Rattle.std.proofs.Common.{List, subst}
 use Rattle.known_targets.specs.declared.target_set.TargetSet.{TargetSet}
 use Rattle.known_targets.specs.Parts.{AreParts}
 use Rattle.known_targets.proofs.Parting.{no_parts, parts_more, all_parts}
-use Rattle.known_targets.proofs.classes.split.Goals as goal
+use Rattle.known_targets.proofs.partition.split.Goals as goal
 
 pub classes-init : goal.classes-init
 classes-init c =

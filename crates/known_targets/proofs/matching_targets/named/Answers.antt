@@ -2,7 +2,7 @@ use Rattle.std.proofs.Common.{◌∙◌, sym, ap, arith, get_or, []}
 use Rattle.std.specs.Prelude.{bytes_eq}
 use Rattle.partial_facts.specs.Partly.{names_of}
 use Rattle.known_targets.proofs.Steps.{named_more, named_none, name_at}
-use Rattle.known_targets.proofs.matching.named.Goals as goal
+use Rattle.known_targets.proofs.matching_targets.named.Goals as goal
 
 pub returns : goal.returns
 returns c k below = c.names.invariant.0 k (omega arith)
