@@ -11,7 +11,7 @@ from conditions import Refused, as_line, inside_of_key, read, read_target, shown
 from targets import known_targets
 
 # The targets: the known ones, those of a file, or the known ones with others that are added.
-TARGETS = r"target (?:that rustc 1\.95\.0 knows|of \S+|of rustc 1\.95\.0 with --target-spec)"
+TARGETS = r"target (?:that rustc 1\.95\.0 knows|of \S+|of rustc 1\.95\.0 with (?:--target-spec|known-targets))"
 NONE, NAMES = f"no {TARGETS} has", r"(`.*`(?: and \d+ more)?)"
 FACTS, FEATURES = f"{NONE} {NAMES}", f"no architecture that rustc 1.95.0 knows has {NAMES}"
 UNSTABLE = f"rustc 1.95.0 prints {NAMES} only with unstable features"
@@ -42,7 +42,7 @@ OTHERS = {
     "misplaced": "Cargo does not read this table|Cargo rejects this package name"
                  "|Cargo takes `.*` for the name of a package",
     "settings": "`.*` is not .*|the table `manifest_check` has no effect|unknown (?:lint|setting): `.*`"
-                "|an entry of `.*` is not a string",
+                "|an entry of `.*` is (?:not a string|neither .*)|cannot use `.*`: .*",
 }
 
 

@@ -164,9 +164,9 @@ const UNREAD_FIELD: Said = Said {
 const SETTINGS: Said = Said {
     short: "an invalid setting of `manifest-check` in the metadata",
     text: "The table `manifest-check` in `package.metadata` or `workspace.metadata` contains an unknown setting, an \
-           unknown lint, another value in place of a list, an entry of `known-facts` that is not a fact, or an entry \
-           of `known-targets` that is not the name of a target. The rest of the table is used. A table \
-           `manifest_check` is not used at all.\n\n\
+           unknown lint, another value in place of a list, an entry of `known-facts` that is not a fact, an entry \
+           of `known-targets` that is not the name of a target, or one whose file of facts cannot be used. The \
+           rest of the table is used. A table `manifest_check` is not used at all.\n\n\
            Example: [package.metadata.manifest-check]\n         allow = [\"nowere\"]\nWrite `nowhere`.",
 };
 

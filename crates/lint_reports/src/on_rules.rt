@@ -89,6 +89,13 @@ fn no_entry_message(alloc: Global, word: &str) -> Result<String, AllocError> {
     )
 }
 
+/// Returns the message for an entry of `known-targets` that is not the name of a target, and has none.
+fn no_target_message(alloc: Global) -> Result<String, AllocError> {
+    format!(in alloc;
+        "an entry of `known-targets` is neither the name of a target nor a table with `name` and `facts`"
+    )
+}
+
 /// Returns what is wrong in a table of rules.
 fn wrong_of(alloc: Global, fault: &Fault) -> Result<Wrong, AllocError> {
     let message = match fault {
@@ -104,6 +111,8 @@ fn wrong_of(alloc: Global, fault: &Fault) -> Result<Wrong, AllocError> {
         Fault::UnknownCode(word) => return unknown_code(alloc, word.as_str()),
         Fault::UnknownWord(word) => return unknown_word(alloc, word.as_str()),
         Fault::NoFact(text) => return no_fact(alloc, text.as_str()),
+        Fault::NoTargetEntry => no_target_message(alloc)?,
+        Fault::NoFactsOf(reason) => reason.clone()?,
         Fault::NoTarget(text) => {
             let text = shown_start(alloc, text.as_str())?;
             format!(in alloc; "`{text}` is not the name of a target")?

@@ -40,8 +40,12 @@ pub enum Fault {
     UnknownWord(String),
     /// An entry of `known-facts` with this text is no fact.
     NoFact(String),
+    /// An entry of `known-targets` is neither a text nor a table with the texts `name` and `facts`.
+    NoTargetEntry,
     /// An entry of `known-targets` with this text is no name of a target.
     NoTarget(String),
+    /// The file with the facts of a target in `known-targets` can't be used, for this reason.
+    NoFactsOf(String),
     /// The name of the table has an underscore.
     Underscored,
 }
@@ -62,6 +66,16 @@ pub struct FaultAt {
     pub entry: Option<usize>,
 }
 
+/// A target in `known-targets` whose facts are in a file.
+#[derive(Drop)]
+pub struct CustomTarget {
+    pub name: String,
+    /// The path of the file, from the folder of the manifest.
+    pub file: String,
+    /// The index of its entry.
+    pub entry: usize,
+}
+
 /// The settings in a table of rules.
 #[derive(Drop)]
 pub struct Settings {
@@ -69,6 +83,8 @@ pub struct Settings {
     pub rules: Vec<Rule>,
     /// The names of known targets, in addition to those of rustc.
     pub targets: Vec<String>,
+    /// Those of them whose facts are in files.
+    pub custom_targets: Vec<CustomTarget>,
     /// The facts that are declared as known, as `rustc --print cfg` prints them.
     pub facts: Vec<String>,
     /// The release of rustc that builds the project.
@@ -132,6 +148,15 @@ fn named_by(entry: &Value) -> Option<(&str, Option<&str>)> {
     match entry {
         Value::String(word) => Some((word.as_str(), None)),
         Value::Table(table) => Some((text_at(table, "code")?, Some(text_at(table, "key")?))),
+        _ => None,
+    }
+}
+
+/// Returns the name in an entry of `known-targets`, and the path of the file with the facts of the target if it has one.
+fn target_in(entry: &Value) -> Option<(&str, Option<&str>)> {
+    match entry {
+        Value::String(name) => Some((name.as_str(), None)),
+        Value::Table(table) => Some((text_at(table, "name")?, Some(text_at(table, "facts")?))),
         _ => None,
     }
 }
@@ -255,21 +280,57 @@ impl Settings {
         Ok(release)
     }
 
-    /// Records the entries of `known-facts` that are no facts, and those of `known-targets` that are no names: they
-    /// have no effect.
+    /// Adds the target of the entry of `known-targets` at an index, or records that it names none.
+    fn add_target(&mut self, alloc: Global, index: usize, entry: &Value) -> Result<(), AllocError> {
+        let Some((name, file)) = target_in(entry) else {
+            return self.add_fault(alloc, KNOWN_TARGETS, Some(index), Fault::NoTargetEntry);
+        };
+        let name = String::from_str(alloc, name)?;
+        if !is_target_name(alloc, name.as_str())? {
+            return self.add_fault(alloc, KNOWN_TARGETS, Some(index), Fault::NoTarget(name));
+        }
+        if let Some(file) = file {
+            self.custom_targets.push(CustomTarget {
+                name: name.clone()?,
+                file: String::from_str(alloc, file)?,
+                entry: index,
+            })?;
+        }
+        self.targets.push(name)?;
+        Ok(())
+    }
+
+    /// Adds the targets in `known-targets`.
+    fn add_targets(&mut self, alloc: Global, table: &Table) -> Result<(), AllocError> {
+        match table.get(KNOWN_TARGETS) {
+            Some(Value::Array(entries)) => {
+                for (index, entry) in entries.iter().enumerate() {
+                    self.add_target(alloc, index, entry)?;
+                }
+                Ok(())
+            }
+            Some(_) => { self.add_fault(alloc, KNOWN_TARGETS, None, Fault::NoList(KNOWN_TARGETS)) }
+            None => Ok(()),
+        }
+    }
+
+    /// Records that the file of a target in `known-targets`, whose entry has this index, can't be used.
+    pub fn reject_target(
+        &mut self,
+        alloc: Global,
+        entry: usize,
+        reason: String,
+    ) -> Result<(), AllocError> {
+        self.add_fault(alloc, KNOWN_TARGETS, Some(entry), Fault::NoFactsOf(reason))
+    }
+
+    /// Records the entries of `known-facts` that are no facts: they have no effect.
     fn add_idle(&mut self, alloc: Global, table: &Table) -> Result<(), AllocError> {
         for (index, text) in texts_at(table, KNOWN_FACTS).iter().enumerate() {
             let text = text.as_str().unwrap_or("a");
             if !is_fact(alloc, text)? {
                 let fault = Fault::NoFact(String::from_str(alloc, text)?);
                 self.add_fault(alloc, KNOWN_FACTS, Some(index), fault)?;
-            }
-        }
-        for (index, text) in texts_at(table, KNOWN_TARGETS).iter().enumerate() {
-            let text = text.as_str().unwrap_or("a");
-            if !is_target_name(alloc, text)? {
-                let fault = Fault::NoTarget(String::from_str(alloc, text)?);
-                self.add_fault(alloc, KNOWN_TARGETS, Some(index), fault)?;
             }
         }
         Ok(())
@@ -296,13 +357,14 @@ impl Settings {
         let mut settings = Settings {
             rules: Vec::new(alloc),
             targets: Vec::new(alloc),
+            custom_targets: Vec::new(alloc),
             facts: Vec::new(alloc),
             rustc: None,
             faults: Vec::new(alloc),
         };
         match value {
             Some(Value::Table(table)) => {
-                settings.targets = settings.texts(alloc, table, KNOWN_TARGETS)?;
+                settings.add_targets(alloc, table)?;
                 settings.facts = settings.texts(alloc, table, KNOWN_FACTS)?;
                 settings.rustc = settings.release(alloc, table, RUSTC)?;
                 settings.add_idle(alloc, table)?;

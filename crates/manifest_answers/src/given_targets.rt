@@ -141,6 +141,21 @@ impl GivenTargets {
         })
     }
 
+    /// Returns the same targets, to which others can be added.
+    pub fn copy(&self, alloc: Global) -> Result<GivenTargets, AllocError> {
+        let mut own = TargetTable::new(alloc);
+        for row in self.own.rows() {
+            let facts = copied(alloc, row.facts())?;
+            let _is_new = own.add(alloc, row.name(), facts)?;
+        }
+        Ok(GivenTargets {
+            file: self.file.clone()?,
+            own,
+            has_known: self.has_known,
+            listed: OnceCell::new(),
+        })
+    }
+
     /// Adds the target of this name with the facts in a text, one on each line. Fails with a message if there is
     /// already a target of this name, if a line is not a fact, if there is no fact, and if there are too many targets.
     pub fn add(&mut self, alloc: Global, name: &str, text: &str) -> Result<(), Refusal> {

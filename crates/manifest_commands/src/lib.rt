@@ -12,6 +12,7 @@ mod linting;
 mod locks;
 mod named;
 mod other_rustc;
+mod project_targets;
 mod reports;
 mod roots;
 mod styles;

@@ -4,6 +4,7 @@ mod unusable;
 
 use crate::declaring::declare;
 use crate::other_rustc::{OtherRustc, declare_by, given_formers, judge_by};
+use crate::project_targets::ManifestFile;
 use crate::roots::{Root, is_unneeded};
 use cargo_configuration::{
     configuration_beside, explain_unsupported, is_configuration, manifest_beside,
@@ -187,7 +188,7 @@ impl<'a> LintRun<'a> {
         }
         let answer = fix_file(rt, &mut self.documents, root.file.as_str(), fixes)?;
         self.answer.append(answer)?;
-        root.read_again(rt, &mut self.documents)
+        root.read_again(rt, &mut self.documents, self.options.other.as_ref())
     }
 
     /// Reports the diagnostics on the settings of a workspace's root, after those on its members. With `--fix`, its
@@ -502,7 +503,7 @@ fn report_on<'m>(
     alloc: Global,
     manifest: &'m Manifest,
     known_facts: &KnownFacts,
-    other: &Option<OtherRustc>,
+    other: Option<&OtherRustc>,
 ) -> Result<Report<'m>, AllocError> {
     let mut report = lint(alloc, &manifest.document, known_facts)?;
     judge_by(alloc, other, &manifest.document.table, &mut report)?;
@@ -526,18 +527,19 @@ fn lint_configuration<R: Files + Input + AllocGlobal>(
     let lints = root.configuration_lints()?;
     let mut table = manifest_with_targets(alloc, &manifest.document.table, lints)?;
     declare(alloc, &mut table, &root.settings.facts)?;
-    declare_by(alloc, &run.options.other, &mut table)?;
+    let other = root.other.as_ref().or(run.options.other.as_ref());
+    declare_by(alloc, other, &mut table)?;
     let settings = Settings::of(alloc, None)?;
     let project = Project {
         of_workspace: &root.settings,
         of_package: &settings,
         rust_version: None,
-        targets: given_formers(&run.options.other),
+        targets: given_formers(other),
     };
     let formers = declare_formers(alloc, &mut table, &project)?;
     manifest.document.table = table;
+    let mut report = report_on(alloc, &manifest, known_facts, other)?;
     root.hides_lints = false;
-    let mut report = report_on(alloc, &manifest, known_facts, &run.options.other)?;
     explain_unsupported(alloc, &mut report.findings)?;
     run.counts.add_configuration(report.keys.len());
     let beside = Beside {
@@ -564,17 +566,24 @@ fn lint_at<R: Files + Input + Env + AllocGlobal>(
     let table = &mut manifest.document.table;
     root.put_lints(alloc, table)?;
     declare(alloc, table, &root.settings.facts)?;
-    let settings = Settings::in_part(alloc, table, PACKAGE)?;
+    let mut settings = Settings::in_part(alloc, table, PACKAGE)?;
     declare(alloc, table, &settings.facts)?;
-    declare_by(alloc, &run.options.other, table)?;
+    let file = ManifestFile {
+        path,
+        limit: run.documents.limit,
+    };
+    let other = root.other.as_ref().or(run.options.other.as_ref());
+    let own = file.rustc_with_targets(rt, &mut settings, other)?;
+    let other = own.as_ref().or(other);
+    declare_by(alloc, other, table)?;
     let project = Project {
         of_workspace: &root.settings,
         of_package: &settings,
         rust_version: root.rust_version_of(table),
-        targets: given_formers(&run.options.other),
+        targets: given_formers(other),
     };
     let formers = declare_formers(alloc, table, &project)?;
-    let report = report_on(alloc, &manifest, known_facts, &run.options.other)?;
+    let report = report_on(alloc, &manifest, known_facts, other)?;
     let wrong = wrong_places(alloc, &manifest.document.table)?;
     run.counts.add_manifest(report.keys.len());
     let beside = Beside {
@@ -726,8 +735,9 @@ pub fn lint_each<R: Files + Input + Env + AllocGlobal>(
     for path in paths {
         let manifest = manifest_of(alloc, path)?;
         let documents = &mut run.documents;
-        if let Some(other) = Root::of(rt, documents, manifest.as_str(), &root)? {
+        if let Some(mut other) = Root::of(rt, documents, manifest.as_str(), &root)? {
             run.report_on_root(rt, &mut root)?;
+            other.read_targets(rt, run.documents.limit, options.other.as_ref())?;
             root = other;
         }
         lint_named(rt, paths, path, &known_facts, &mut root, &mut run)?;

@@ -48,6 +48,11 @@ impl OtherRustc {
         })
     }
 
+    /// Returns its targets.
+    pub fn targets(&self) -> &GivenTargets {
+        &self.given
+    }
+
     /// Replaces the diagnostics of a report that depend on the built-in targets by those for its own targets.
     fn judge(
         &self,
@@ -173,7 +178,7 @@ fn formers_among(alloc: Global, given: &GivenTargets) -> Result<Vec<String>, All
 
 /// Returns the names of targets that rustc knew only until some release and that the other rustc knows, if there is
 /// one.
-pub fn given_formers(other: &Option<OtherRustc>) -> &[String] {
+pub fn given_formers(other: Option<&OtherRustc>) -> &[String] {
     match other {
         Some(other) => &other.former,
         None => &[],
@@ -183,7 +188,7 @@ pub fn given_formers(other: &Option<OtherRustc>) -> &[String] {
 /// Adds the facts of the other rustc, if there is one, to those that a manifest declares.
 pub fn declare_by(
     alloc: Global,
-    other: &Option<OtherRustc>,
+    other: Option<&OtherRustc>,
     manifest: &mut Table,
 ) -> Result<(), AllocError> {
     match other {
@@ -196,7 +201,7 @@ pub fn declare_by(
 /// one.
 pub fn judge_by(
     alloc: Global,
-    other: &Option<OtherRustc>,
+    other: Option<&OtherRustc>,
     manifest: &Table,
     report: &mut Report<'_>,
 ) -> Result<(), AllocError> {

@@ -1,5 +1,7 @@
 //! The roots of workspaces, as `lint` meets them: their rules, and what their members inherit.
 
+use crate::other_rustc::OtherRustc;
+use crate::project_targets::ManifestFile;
 use diagnostics::{Occurrence, Rule, Setting};
 use former_names::Release;
 use input_limits::INPUT;
@@ -15,6 +17,8 @@ pub struct Root {
     /// The path of its manifest.
     pub file: String,
     pub settings: Settings,
+    /// The rustc whose targets count for its members, if its settings have targets whose facts are in files.
+    pub other: Option<OtherRustc>,
     /// For each rule, whether a diagnostic needs it.
     pub needed: Vec<bool>,
     inheritable: Inheritable,
@@ -66,6 +70,7 @@ impl Root {
         Ok(Root {
             file,
             settings,
+            other: None,
             needed,
             inheritable,
             is_selected: false,
@@ -102,12 +107,13 @@ impl Root {
             || is_whole && unneeded.any(|(rule, is_needed)| is_unneeded(rule, *is_needed))
     }
 
-    /// Reads its settings again, from which entries that nothing needs have been removed. Of the rules that are left,
-    /// those are needed that were needed before.
+    /// Reads its settings again, from which entries that nothing needs have been removed, with the targets in them, as
+    /// `read_targets` does. Of the rules that are left, those are needed that were needed before.
     pub fn read_again<R: Files + AllocGlobal>(
         &mut self,
         rt: &R,
         documents: &mut Documents,
+        other: Option<&OtherRustc>,
     ) -> Result<(), AllocError> {
         let alloc = rt.alloc();
         let document = documents.get(rt, self.file.as_str())?;
@@ -118,6 +124,22 @@ impl Root {
         }
         self.settings = settings;
         self.needed = needed;
+        self.read_targets(rt, documents.limit, other)
+    }
+
+    /// Reads the facts of the targets in its settings. They count in addition to those of the command line, `other`, or
+    /// else to the known ones.
+    pub fn read_targets<R: Files + AllocGlobal>(
+        &mut self,
+        rt: &R,
+        limit: u64,
+        other: Option<&OtherRustc>,
+    ) -> Result<(), AllocError> {
+        let file = ManifestFile {
+            path: self.file.as_str(),
+            limit,
+        };
+        self.other = file.rustc_with_targets(rt, &mut self.settings, other)?;
         Ok(())
     }
 
