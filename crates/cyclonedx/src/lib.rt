@@ -2,20 +2,20 @@
 //! the content, and checksums from lock files of Cargo.
 #![tactic(auto)]
 
-mod document;
 pub mod laws;
 mod lock;
+mod model;
 mod purl;
 mod reading;
 mod relations;
 mod serial;
 mod sources;
 
-pub use document::{
+pub use lock::{LockFile, LockedPackage};
+pub use model::{
     Bom, BomMetadata, Component, ExternalReference, Hash, LicenceChoice, LicenceName, LicenceText,
     NamedLicence, Property, ToolComponent, Tools,
 };
-pub use lock::{LockFile, Locked};
 pub use purl::package_url;
 pub use reading::{LockError, LockFault, read_lock};
 pub use relations::{Edge, Node, Relation, relations_of};

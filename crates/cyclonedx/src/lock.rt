@@ -9,7 +9,7 @@ use std::collections::BTreeMap;
 
 /// A package of a lock file, without its name.
 #[derive(Drop)]
-pub struct Locked {
+pub struct LockedPackage {
     pub version: String,
     /// The registry or repository, as the lock file writes it.
     pub source: String,
@@ -17,7 +17,7 @@ pub struct Locked {
     pub checksum: Option<String>,
 }
 
-impl Locked {
+impl LockedPackage {
     /// Returns whether this is a package with this version and source.
     fn is_of(&self, version: &str, source: &str) -> bool
         ensures { result ≡ is_locked version.now source.now self.now }
@@ -29,7 +29,7 @@ impl Locked {
 /// The packages of a lock file that come from registries and repositories.
 #[derive(Drop)]
 pub struct LockFile {
-    by_name: BTreeMap<String, Vec<Locked>>,
+    by_name: BTreeMap<String, Vec<LockedPackage>>,
 }
 
 impl LockFile {
@@ -43,7 +43,7 @@ impl LockFile {
     }
 
     /// Adds a package with this name. Fails if memory is refused.
-    pub fn add(&mut self, name: String, locked: Locked) -> Result<(), AllocError>
+    pub fn add(&mut self, name: String, locked: LockedPackage) -> Result<(), AllocError>
         // It follows the packages with its name, and those with other names stay.
         ensures { OnOk result
             ((other : List ℕ) → group_at self.new other ≡ group_with self.old (string_bytes name) locked other) }
@@ -53,7 +53,7 @@ impl LockFile {
     }
 
     /// Returns the first package with this name, version and source.
-    pub fn find(&self, name: &str, version: &str, source: &str) -> Option<&Locked>
+    pub fn find(&self, name: &str, version: &str, source: &str) -> Option<&LockedPackage>
         // It is the first one with the version and the source among those with the name.
         ensures { option_copied result
             ≡ find (is_locked version.now source.now) (group_at self.now name.now) }

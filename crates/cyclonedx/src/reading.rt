@@ -1,6 +1,6 @@
 //! Lock files, read from TOML.
 
-use crate::lock::{LockFile, Locked};
+use crate::lock::{LockFile, LockedPackage};
 use std::alloc::{AllocError, Global};
 use toml::{Table, Value, table_from_str};
 
@@ -153,7 +153,7 @@ fn add_entry(
         Some(text) => Some(String::from_str(alloc, text)?),
         None => None,
     };
-    let locked = Locked {
+    let locked = LockedPackage {
         version: String::from_str(alloc, entry.version)?,
         source: String::from_str(alloc, source)?,
         checksum,

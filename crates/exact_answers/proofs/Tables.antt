@@ -12,8 +12,8 @@ use Rattle.std.proofs.lemmas.List.Elements.{All-set}
 use Rattle.std.proofs.lemmas.List.{get_or-reverse, reverse-reverse, reverse-append, length-reverse}
 use Rattle.exact_answers.specs.declared.goal_diagrams.table.Node.{Node}
 use Rattle.exact_answers.specs.declared.goal_diagrams.table.Choice.{Choice}
-use Rattle.exact_answers.specs.declared.goal_diagrams.table.Joined.{Joined}
-use Rattle.exact_answers.specs.declared.goal_diagrams.table.Halves.{Halves}
+use Rattle.exact_answers.specs.declared.goal_diagrams.table.JoinEntry.{JoinEntry}
+use Rattle.exact_answers.specs.declared.goal_diagrams.table.Cofactors.{Cofactors}
 use Rattle.exact_answers.specs.declared.goal_diagrams.table.Table.{Table}
 use Rattle.exact_answers.specs.Diagrams.{joint, pick, value, nodes_of, places, AreEarlier, IsJoin, IsTable}
 use Rattle.exact_answers.specs.Diagrams.{Grows, IsMade, IsNodeAt, IsNode, AreHalves, IsJoinOf, Agrees}
@@ -61,7 +61,7 @@ grows-twice a b c f g = record {
 
 -- ---- what was joined stays so
 
-pub join-kept : (a b : List Node) (j : Joined) → Grows a b → IsJoin a j → IsJoin b j
+pub join-kept : (a b : List Node) (j : JoinEntry) → Grows a b → IsJoin a j → IsJoin b j
 join-kept a b j g is = record {
   one_in = omega (arith, g.more, is.one_in);
   other_in = omega (arith, g.more, is.other_in);
@@ -72,7 +72,7 @@ join-kept a b j g is = record {
       ∙ ap (λ x. joint j.each (value holds b j.one) x) (sym (g.same holds j.other is.other_in));
 }
 
-pub joins-kept : (a b : List Node) (js : List Joined) → Grows a b → All (IsJoin a) js → All (IsJoin b) js
+pub joins-kept : (a b : List Node) (js : List JoinEntry) → Grows a b → All (IsJoin a) js → All (IsJoin b) js
 joins-kept a b js g all = λ k d h. join-kept a b _ g (all k d h)
 
 -- ---- the node at a place
@@ -303,7 +303,7 @@ join-settled ns each one other place h differs e = record {
 
 -- places that were joined before
 
-pub recalled-join : (ns : List Node) (items : List Joined) (i : ℕ) (j : Joined) (each : Bool) (one other : ℕ)
+pub recalled-join : (ns : List Node) (items : List JoinEntry) (i : ℕ) (j : JoinEntry) (each : Bool) (one other : ℕ)
     → All (IsJoin ns) items → i < length items → j ≡ get_or items i j
     → (j.each ≡ each) × (j.one ≡ one) × (j.other ≡ other) → IsJoinOf ns each one other j.place
 recalled-join ns items i j each one other all h is same =
@@ -316,7 +316,8 @@ recalled-join ns items i j each one other all h is same =
           ∙ ap (λ x. joint each (value holds ns one) (value holds ns x)) same.2;
     }
 
-pub remembered : (ns : List Node) (items : List Joined) (i : ℕ) (j : Joined) → IsTable ns items → IsJoin ns j
+pub remembered : (ns : List Node) (items : List JoinEntry) (i : ℕ) (j : JoinEntry) → IsTable ns items
+    → IsJoin ns j
     → IsTable ns (set items i j)
 remembered ns items i j is join =
     record { earlier = is.earlier; joins = All-set (IsJoin ns) items i j join is.joins }
@@ -324,7 +325,7 @@ remembered ns items i j is join =
 pub first-join : IsJoin [] (record { each = true; one = 0; other = 0; place = 0 })
 first-join = record { one_in = lit< tt; other_in = lit< tt; place_in = lit< tt; joins = λ holds. refl }
 
-pub no-nodes : (ns : List Node) (js : List Joined) → ns ≡ [] → All (IsJoin []) js → IsTable ns js
+pub no-nodes : (ns : List Node) (js : List JoinEntry) → ns ≡ [] → All (IsJoin []) js → IsTable ns js
 no-nodes ns js e all = subst (λ ns. IsTable ns js) (sym e) (record { earlier = tt; joins = all })
 
 -- ---- joining by halves
@@ -387,7 +388,7 @@ halves-both ns one other n m a b e = record {
   less_without = omega (arith, a.without, b.without);
 }
 
-module _ (a b c d : List Node) (each : Bool) (one other : ℕ) (h : Halves) (without with place : ℕ)
+module _ (a b c d : List Node) (each : Bool) (one other : ℕ) (h : Cofactors) (without with place : ℕ)
     (halves : AreHalves a one other h) (ab : Grows a b) (bc : Grows b c) (inside : without < places b)
     (is_without : (holds : ℕ → Bool)
     → value holds b without ≡ joint each (value holds a h.one_without) (value holds a h.other_without))

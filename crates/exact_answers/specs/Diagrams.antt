@@ -3,8 +3,8 @@ use Rattle.std.specs.Prelude.{◌≡◌, ℕ, ◌+◌, ◌<◌, ◌≤◌, ◌==
 use Rattle.std.specs.Prelude.{List, [], ◌∷◌, reverse, length}
 use Rattle.std.specs.List.{All}
 use Rattle.exact_answers.specs.declared.goal_diagrams.table.Node.{Node}
-use Rattle.exact_answers.specs.declared.goal_diagrams.table.Joined.{Joined}
-use Rattle.exact_answers.specs.declared.goal_diagrams.table.Halves.{Halves}
+use Rattle.exact_answers.specs.declared.goal_diagrams.table.JoinEntry.{JoinEntry}
+use Rattle.exact_answers.specs.declared.goal_diagrams.table.Cofactors.{Cofactors}
 use Rattle.exact_answers.specs.declared.goal_diagrams.table.Table.{Table}
 use Rattle.exact_answers.specs.declared.goal_diagrams.table.Choice.{Choice}
 
@@ -45,14 +45,14 @@ pub record IsJoinOf (ns : List Node) (each : Bool) (one other place : ℕ) : Typ
       → value holds ns place ≡ joint each (value holds ns one) (value holds ns other)
 
 -- what two places were joined to
-pub record IsJoin (ns : List Node) (j : Joined) : Type 0 where
+pub record IsJoin (ns : List Node) (j : JoinEntry) : Type 0 where
   pub one_in : j.one < places ns
   pub other_in : j.other < places ns
   pub place_in : j.place < places ns
   pub joins : (holds : ℕ → Bool)
       → value holds ns j.place ≡ joint j.each (value holds ns j.one) (value holds ns j.other)
 
-pub record IsTable (ns : List Node) (js : List Joined) : Type 0 where
+pub record IsTable (ns : List Node) (js : List JoinEntry) : Type 0 where
   pub earlier : AreEarlier ns
   pub joins : All (IsJoin ns) js
 
@@ -83,7 +83,7 @@ pub record IsNode (ns : List Node) (number without with place : ℕ) : Type 0 wh
       → value holds ns place ≡ pick (holds number) (value holds ns with) (value holds ns without)
 
 -- two places by a pair, at places before them
-pub record AreHalves (ns : List Node) (one other : ℕ) (h : Halves) : Type 0 where
+pub record AreHalves (ns : List Node) (one other : ℕ) (h : Cofactors) : Type 0 where
   pub one_means : (holds : ℕ → Bool)
       → value holds ns one ≡ pick (holds h.number) (value holds ns h.one_with) (value holds ns h.one_without)
   pub other_means : (holds : ℕ → Bool)

@@ -5,8 +5,8 @@ use crate::identifiers::are_listed;
 use cargo_metadata::Package as Described;
 use cargo_metadata::fields::{list_at, text_at};
 use cyclonedx::{
-    Component, ExternalReference, Hash, LicenceChoice, LicenceName, LicenceText, LockFile, Locked,
-    NamedLicence, Property, Source, package_url,
+    Component, ExternalReference, Hash, LicenceChoice, LicenceName, LicenceText, LockFile,
+    LockedPackage, NamedLicence, Property, Source, package_url,
 };
 use serde_json::Value;
 use spdx_expressions::{LicenceExpression, ReadError};
@@ -43,7 +43,7 @@ impl<'a> ListedPackage<'a> {
     }
 
     /// Returns what a lock file has of the package.
-    fn locked_in<'l>(&self, lock: &'l LockFile) -> Option<&'l Locked> {
+    fn locked_in<'l>(&self, lock: &'l LockFile) -> Option<&'l LockedPackage> {
         lock.find(self.described.name, self.described.version, self.source()?)
     }
 

@@ -3,16 +3,16 @@
 #![tactic(auto)]
 
 mod against;
-pub mod bill_of_materials;
 mod components;
+pub mod cyclonedx_report;
 mod dates;
 mod dependency_paths;
 mod excluded;
 mod faults;
 mod identifiers;
+mod licence_audit;
 mod licence_lines;
 mod licence_report;
-mod licences;
 mod page;
 mod policies;
 mod unused;
@@ -20,6 +20,6 @@ mod unused;
 pub use against::{kinds_of, show_changes};
 pub use excluded::exclude;
 use graph_queries::{graph, lines, packages, query};
-pub use licences::{Audit, reported_in, show_licences};
+pub use licence_audit::{Audit, reported_in, show_licences};
 pub use page::page_of;
 pub use policies::{AuditPolicy, GivenPolicy, GraphNames, arguments_by_policy, policy_of};

@@ -7,8 +7,8 @@ use cargo_platform::shown_text;
 use graph_queries::classes::{Class, classes_at};
 use graph_queries::graph::Graph;
 use graph_queries::lines::{joined_names, shown, shown_count};
-use graph_queries::packages::{Reached, count_present, kinds_reached};
-use graph_queries::query::{GraphQuery, Made};
+use graph_queries::packages::{ReachingKinds, count_present, kinds_reached};
+use graph_queries::query::{GraphQuery, Provenance};
 use html_pages::Page;
 use known_targets::{RUSTC_VERSION, TargetSet};
 use std::alloc::{AllocError, Global};
@@ -60,7 +60,7 @@ pub fn page_of(
     alloc: Global,
     graph: &Graph<'_>,
     query: &GraphQuery<'_>,
-    made: Made<'_>,
+    made: Provenance<'_>,
     reported: &[Option<&'static str>],
 ) -> Result<String, AllocError> {
     let classes = classes_at(alloc, graph, query)?;
@@ -106,7 +106,7 @@ fn push_title(page: &mut Page, alloc: Global, graph: &Graph<'_>) -> Result<(), A
 }
 
 /// Writes the command that made the page, and the date.
-fn push_made(page: &mut Page, alloc: Global, made: Made<'_>) -> Result<(), AllocError> {
+fn push_made(page: &mut Page, alloc: Global, made: Provenance<'_>) -> Result<(), AllocError> {
     add_markup(page, "<p class=\"made\">Made by <code>")?;
     let command = shown_text(alloc, made.command)?;
     add_text(page, command.as_str())?;
@@ -240,7 +240,7 @@ fn push_class_head(
 #[derive(Clone, Copy, Drop)]
 struct Row {
     index: usize,
-    reached: Reached,
+    reached: ReachingKinds,
     /// What an audit reports of the package's licence.
     reported: Option<&'static str>,
 }

@@ -1,6 +1,6 @@
 //! Allowed licences and exceptions that no package needs.
 
-use crate::licences::Audit;
+use crate::licence_audit::Audit;
 use crate::lines::push;
 use crate::policies::AuditPolicy;
 use cargo_platform::shown_start;

@@ -10,7 +10,7 @@ use graph_queries::query::GraphQuery;
 use key_answers::answer::{Answer, Status};
 use key_answers::json_lines;
 use key_answers::targets::At;
-use selected_targets::Finder;
+use selected_targets::ConditionSearch;
 use serde::Serialize;
 use std::alloc::{AllocError, Global};
 
@@ -73,7 +73,7 @@ pub fn show_edges(
     query: &GraphQuery<'_>,
 ) -> Result<Answer, AllocError> {
     let mut answer = Answer::of(alloc, String::new(alloc), Status::Fine);
-    let finder = Finder::of(alloc, query.selection(), query.host, Vec::new(alloc))?;
+    let finder = ConditionSearch::of(alloc, query.selection(), query.host, Vec::new(alloc))?;
     let mut count: usize = 0;
     for from in &graph.order {
         let edges = edges_followed(alloc, graph, *from, query.kinds)?;
@@ -155,7 +155,7 @@ fn line_of<'g, 'c, 'a>(
     alloc: Global,
     graph: &Graph<'g>,
     edge: &Edge<'g>,
-    finder: &Finder<'_>,
+    finder: &ConditionSearch<'_>,
     query: &GraphQuery<'a>,
 ) -> Result<EdgeLine<'g, 'c, 'a>, AllocError> {
     let followed = graph.followed(edge.from, edge.place, query);
@@ -182,7 +182,7 @@ fn line_of<'g, 'c, 'a>(
 fn smaller_condition(
     alloc: Global,
     edge: &Edge<'_>,
-    finder: &Finder<'_>,
+    finder: &ConditionSearch<'_>,
 ) -> Result<Option<String>, AllocError> {
     let Some(condition) = canonical(alloc, &edge.condition)? else {
         return Ok(None);

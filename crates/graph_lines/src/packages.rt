@@ -5,7 +5,7 @@ use cargo_metadata::Metadata;
 use cargo_metadata::graphs::Linked;
 use graph_queries::graph::Graph;
 use graph_queries::lines::{push, shown_targets};
-use graph_queries::packages::{Reached, count_present, kinds_reached, name_and_version};
+use graph_queries::packages::{ReachingKinds, count_present, kinds_reached, name_and_version};
 use graph_queries::query::GraphQuery;
 use graph_queries::reasons::{Reason, Reasons};
 use key_answers::answer::{Answer, Status};
@@ -44,7 +44,7 @@ struct PackageLine<'g, 'a> {
 struct ListedPackage {
     index: usize,
     /// The dependency kinds through which it is reached, for a line of JSON.
-    reached: Option<Reached>,
+    reached: Option<ReachingKinds>,
     /// If features are resolved: the reasons why the package is left out, each with the selected targets on which it
     /// is.
     left_out: Option<Vec<(Reason, TargetSet)>>,

@@ -5,7 +5,7 @@ use crate::graph::Graph;
 use crate::query::GraphQuery;
 use cargo_platform::{Cfg, values_of};
 use known_targets::{TargetSet, classes};
-use selected_targets::Finder;
+use selected_targets::ConditionSearch;
 use std::alloc::{AllocError, Global};
 
 /// A class of targets, and a condition that is true on exactly these of the selected targets, if one was found.
@@ -78,7 +78,7 @@ pub fn selected_classes(
 fn condition_of(
     alloc: Global,
     targets: TargetSet,
-    finder: &Finder<'_>,
+    finder: &ConditionSearch<'_>,
 ) -> Result<Option<String>, AllocError> {
     match finder.condition(alloc, targets)? {
         Some(found) => Ok(Some(format!(in alloc; "{found}")?)),
@@ -92,7 +92,7 @@ pub fn classes_at(
     graph: &Graph<'_>,
     query: &GraphQuery<'_>,
 ) -> Result<Vec<Class>, AllocError> {
-    let finder = Finder::of(alloc, query.selection(), None, queried_facts(alloc, graph)?)?;
+    let finder = ConditionSearch::of(alloc, query.selection(), None, queried_facts(alloc, graph)?)?;
     let mut found = Vec::new(alloc);
     for targets in selected_classes(alloc, graph, query)? {
         found.push(Class {

@@ -11,7 +11,7 @@ use std::alloc::{AllocError, Global};
 
 /// A side from which a dependency leads.
 #[derive(Clone, Copy, Drop)]
-pub struct Leading {
+pub struct DependencyOrigin {
     /// The side for which the package that has the dependency is built.
     pub from: Side,
     /// The side to which the dependency leads from there.
@@ -80,7 +80,7 @@ pub fn origins_of(
     (index, place): (usize, usize),
     followed: BySide,
     query: &GraphQuery<'_>,
-) -> Result<Vec<Leading>, AllocError> {
+) -> Result<Vec<DependencyOrigin>, AllocError> {
     let mut origins = Vec::new(alloc);
     let Some(dependency) = graph.dependency(index, place) else {
         return Ok(origins);
@@ -97,7 +97,7 @@ pub fn origins_of(
     }
     for (from, to, targets) in [(Side::Target, to, target), (Side::Host, Side::Host, host)] {
         if !targets.is_empty() {
-            origins.push(Leading { from, to, targets })?;
+            origins.push(DependencyOrigin { from, to, targets })?;
         }
     }
     Ok(origins)

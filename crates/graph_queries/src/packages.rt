@@ -9,13 +9,13 @@ use std::alloc::{AllocError, Global};
 
 /// The dependency kinds through which a package is reached on the selected targets.
 #[derive(Clone, Copy, Drop)]
-pub struct Reached {
+pub struct ReachingKinds {
     normal: bool,
     build: bool,
     dev: bool,
 }
 
-impl Reached {
+impl ReachingKinds {
     /// Returns the names of the kinds. Fails if memory is refused.
     pub fn kinds(self, alloc: Global) -> Result<Vec<&'static str>, AllocError> {
         let mut kinds = Vec::new(alloc);
@@ -48,8 +48,8 @@ pub fn kinds_reached(
     alloc: Global,
     graph: &Graph<'_>,
     query: &GraphQuery<'_>,
-) -> Result<Vec<Reached>, AllocError> {
-    let none = Reached {
+) -> Result<Vec<ReachingKinds>, AllocError> {
+    let none = ReachingKinds {
         normal: false,
         build: false,
         dev: false,

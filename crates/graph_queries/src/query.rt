@@ -71,12 +71,12 @@ pub struct GraphArguments<'a> {
     pub requested: Requested<'a>,
     pub json: bool,
     /// The command and the date that the HTML page states, if a page is requested too.
-    pub html: Option<Made<'a>>,
+    pub html: Option<Provenance<'a>>,
 }
 
 /// The command and the date that the HTML page states.
 #[derive(Clone, Copy, Drop)]
-pub struct Made<'a> {
+pub struct Provenance<'a> {
     /// The command, as a shell reads it.
     pub command: &'a str,
     /// The date, in seconds since 1970. Without it the page has none.
@@ -103,7 +103,7 @@ pub struct GraphQuery<'a> {
     pub of: &'a str,
     pub json: bool,
     /// The command and the date that the HTML page states, if a page is requested too.
-    pub html: Option<Made<'a>>,
+    pub html: Option<Provenance<'a>>,
     pub markdown: bool,
     pub requested: Requested<'a>,
 }

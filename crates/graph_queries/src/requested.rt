@@ -25,7 +25,7 @@ const NO_CURRENT: &str =
     "resolver 1 gives the features to the package of the current directory, and `resolve.root` names none";
 
 /// Returns the node of the package of the current directory.
-pub fn current_of(alloc: Global, graph: &Declaring<'_, '_>) -> Result<usize, Rejected> {
+pub fn current_node(alloc: Global, graph: &Declaring<'_, '_>) -> Result<usize, Rejected> {
     if let Some(resolve) = graph.document.get("resolve") {
         if let Some(id) = cargo_metadata::fields::text_at(resolve, "root") {
             for i in 0..graph.metadata.nodes.len() {
@@ -56,7 +56,7 @@ fn of_other<'a>(
 
 /// Returns the names of the current package's features, and the features of other roots, each after the name of its
 /// root. Without a current package, the names are returned as they are.
-pub fn divided<'a>(
+pub fn split_by_root<'a>(
     alloc: Global,
     names: Vec<&'a str>,
     current: Option<usize>,

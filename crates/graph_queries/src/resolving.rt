@@ -4,7 +4,7 @@ use crate::incomplete::lacking_reason;
 use crate::origins::using_from;
 use crate::query::{GraphQuery, Show};
 use crate::reading::{Input, Rejected};
-use crate::requested::{current_of, divided, names_of, reject_unknown};
+use crate::requested::{current_node, names_of, reject_unknown, split_by_root};
 use cargo_features::{Build, Claim, Resolved, resolve};
 use cargo_metadata::fields::text_at;
 use declared_features::{Declarations, Described, RequestedFeatures, described_features};
@@ -216,12 +216,12 @@ pub fn resolution_of<'a>(
     let root = root_package(input.document);
     let resolver = resolver_of(alloc, query.requested.resolver, root)?;
     let current = if resolver == Resolver::One && root.is_some() {
-        Some(current_of(alloc, &graph)?)
+        Some(current_node(alloc, &graph)?)
     } else {
         None
     };
     let names = names_of(alloc, query.requested.features)?;
-    let (names, of_others) = divided(alloc, names, current, &graph)?;
+    let (names, of_others) = split_by_root(alloc, names, current, &graph)?;
     let features = RequestedFeatures {
         names: &names,
         default: !query.requested.no_default,

@@ -57,13 +57,13 @@ impl Relation {
 
 /// The relations between two keys on every possible target, that is, for every possible set of facts.
 #[derive(Drop)]
-pub struct Everywhere {
+pub struct ExactRelations {
     pub implies: MustSelect,
     pub implied_by: MustSelect,
     pub excludes: MustSelect,
 }
 
-impl Everywhere {
+impl ExactRelations {
     /// Returns whether each key implies the other one. An example against either shows that they are not equivalent.
     pub fn equivalent(&self) -> &MustSelect {
         match (&self.implies, &self.implied_by) {
@@ -85,7 +85,7 @@ impl Everywhere {
 
 /// The relations between two keys on the known targets, each with its own facts.
 #[derive(Clone, Copy, Drop)]
-pub struct AtKnown {
+pub struct KnownTargetRelations {
     /// Whether each relation is true on all known targets, in the order of `RELATIONS`.
     pub held: [bool; 4],
     /// The targets on which both keys are true.
@@ -97,7 +97,11 @@ pub struct AtKnown {
 }
 
 /// Returns how `a` relates to `b` on the known targets.
-pub fn at_known_targets(alloc: Global, a: &Platform, b: &Platform) -> Result<AtKnown, AllocError> {
+pub fn at_known_targets(
+    alloc: Global,
+    a: &Platform,
+    b: &Platform,
+) -> Result<KnownTargetRelations, AllocError> {
     let at_a = matching(alloc, a)?;
     let at_b = matching(alloc, b)?;
     let both = at_a.intersection(at_b);
@@ -105,7 +109,7 @@ pub fn at_known_targets(alloc: Global, a: &Platform, b: &Platform) -> Result<AtK
     let second_alone = at_b.intersection(at_a.complement());
     let implies = first_alone.is_empty();
     let implied_by = second_alone.is_empty();
-    Ok(AtKnown {
+    Ok(KnownTargetRelations {
         held: [implies, implied_by, implies && implied_by, both.is_empty()],
         both,
         first_alone,
@@ -189,7 +193,7 @@ fn push_targets(
 }
 
 /// Returns the lines on the known targets.
-fn known_lines(alloc: Global, known: &AtKnown) -> Result<String, AllocError> {
+fn known_lines(alloc: Global, known: &KnownTargetRelations) -> Result<String, AllocError> {
     let told = told_at_known(alloc, &known.held)?;
     let mut lines = format!(in alloc; "at the {COUNT} known targets: {told}\n")?;
     push_targets(&mut lines, alloc, "both", known.both)?;
@@ -205,8 +209,8 @@ fn found_everywhere<'a>(
     b: &'a Platform,
     known: &'a FactConstraints<'a>,
     splits: u64,
-) -> Result<Everywhere, AllocError> {
-    Ok(Everywhere {
+) -> Result<ExactRelations, AllocError> {
+    Ok(ExactRelations {
         implies: tidy(implies_platform(alloc, a, b, known, splits)?)?,
         implied_by: tidy(implies_platform(alloc, b, a, known, splits)?)?,
         excludes: tidy(exclude_platform(alloc, a, b, known, splits)?)?,
@@ -216,7 +220,7 @@ fn found_everywhere<'a>(
 /// Returns the notes on relations that would take too many case splits.
 fn undecided_notes(
     alloc: Global,
-    everywhere: &Everywhere,
+    everywhere: &ExactRelations,
     budget: u64,
 ) -> Result<String, AllocError> {
     let mut errors = String::new(alloc);
@@ -263,7 +267,11 @@ fn empty_note(alloc: Global, place: &str, key: &Platform) -> Result<String, Allo
 }
 
 /// Returns the answers, one a line: those on the known targets, followed by those on every possible target.
-fn lines_of(alloc: Global, everywhere: &Everywhere, known: &AtKnown) -> Result<String, AllocError> {
+fn lines_of(
+    alloc: Global,
+    everywhere: &ExactRelations,
+    known: &KnownTargetRelations,
+) -> Result<String, AllocError> {
     let mut lines = known_lines(alloc, known)?;
     lines.push_str("at the targets of any specification:\n")?;
     for relation in RELATIONS {

@@ -1,6 +1,6 @@
 //! The line of `compare --json`.
 
-use crate::comparing::{AtKnown, Everywhere, RELATIONS};
+use crate::comparing::{ExactRelations, KnownTargetRelations, RELATIONS};
 use crate::json_lines;
 use crate::targets::{At, Every, names_of};
 use exact_answers::MustSelect;
@@ -106,8 +106,8 @@ fn fields_of(alloc: Global, held: &[bool; 4]) -> Result<Vec<&'static str>, Alloc
 /// Returns the answers as a line of JSON.
 pub fn json_line(
     alloc: Global,
-    everywhere: &Everywhere,
-    known: &AtKnown,
+    everywhere: &ExactRelations,
+    known: &KnownTargetRelations,
 ) -> Result<String, AllocError> {
     let comparison = Comparison {
         both: targets_of(alloc, known.both)?,

@@ -1,8 +1,8 @@
 //! Conditions that are true on exactly the targets of a set.
 
-mod exact;
+mod checked;
 mod one_fact;
 mod several_facts;
 
-pub use one_fact::Simple;
+pub use one_fact::SingleFactConditions;
 pub use several_facts::covering;

@@ -25,7 +25,7 @@ use workspaces::{Documents, table_of};
 
 /// The options that go with `--fix`.
 #[derive(Clone, Copy, Drop)]
-pub struct Fixing {
+pub struct FixOptions {
     /// True if a diff is printed, and nothing is written.
     pub is_dry: bool,
     /// True if suggestions that may change what a manifest means are applied too.
@@ -50,7 +50,7 @@ struct Fix {
 /// The fixes for a manifest.
 #[derive(Drop)]
 pub struct Fixes {
-    fixing: Fixing,
+    fixing: FixOptions,
     /// The text of the manifest.
     text: String,
     fixes: Vec<Fix>,
@@ -144,7 +144,7 @@ impl Fix {
 
 impl Fixes {
     /// Returns no fixes.
-    pub fn new(alloc: Global, fixing: Fixing) -> Fixes {
+    pub fn new(alloc: Global, fixing: FixOptions) -> Fixes {
         Fixes {
             fixing,
             text: String::new(alloc),

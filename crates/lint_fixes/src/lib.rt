@@ -6,4 +6,4 @@ mod fixing;
 mod replacing;
 mod sameness;
 
-pub use fixing::{Fixes, Fixing, fix_file};
+pub use fixing::{FixOptions, Fixes, fix_file};

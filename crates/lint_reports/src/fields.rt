@@ -1,7 +1,7 @@
 //! Fields under the keys of `target` that Cargo does not read in its own configuration.
 
 use cargo_platform::shown_start;
-use manifest_lints_findings::{Children, Level, Lint, Site, WrongPlace, add_at_top, near};
+use manifest_lints_findings::{Children, Level, Lint, Site, TableDiagnostic, add_at_top, near};
 use std::alloc::{AllocError, Global};
 use toml::{Table, Value};
 
@@ -102,13 +102,13 @@ fn field_of(
     key: &str,
     name: &str,
     unread: Unread,
-) -> Result<WrongPlace, AllocError> {
+) -> Result<TableDiagnostic, AllocError> {
     let Unread {
         level,
         message,
         children,
     } = unread;
-    Ok(WrongPlace {
+    Ok(TableDiagnostic {
         lint: Lint::UnreadField,
         level,
         subject: String::from_str(alloc, TARGET)?,
@@ -128,7 +128,7 @@ fn add_of_key(
     alloc: Global,
     key: &str,
     fields: &Table,
-    found: &mut Vec<WrongPlace>,
+    found: &mut Vec<TableDiagnostic>,
 ) -> Result<(), AllocError> {
     for (name, value) in fields.iter() {
         if let Some(unread) = unread_at(alloc, key, name.as_str(), value)? {
@@ -141,7 +141,10 @@ fn add_of_key(
 /// Returns the diagnostics on what Cargo does not read of a
 /// [configuration](https://doc.rust-lang.org/cargo/reference/config.html#target): tables that are meant for targets but
 /// are defined elsewhere, and fields of keys. Fails if memory is refused.
-pub fn wrong_fields(alloc: Global, configuration: &Table) -> Result<Vec<WrongPlace>, AllocError> {
+pub fn wrong_fields(
+    alloc: Global,
+    configuration: &Table,
+) -> Result<Vec<TableDiagnostic>, AllocError> {
     let mut found = Vec::new(alloc);
     add_at_top(alloc, configuration, &mut found)?;
     if let Some(Value::Table(targets)) = configuration.get(TARGET) {

@@ -50,7 +50,7 @@ pub struct Style {
 
 /// A printer of diagnostics.
 #[derive(Drop)]
-pub struct Printed {
+pub struct Printer {
     style: Style,
     /// True if a result of SARIF has been printed.
     has_result: bool,
@@ -228,10 +228,10 @@ fn push_command(
     text.push_str(command.as_str())
 }
 
-impl Printed {
+impl Printer {
     /// Returns a printer with this style that has printed no diagnostic.
-    pub fn new(alloc: Global, style: Style) -> Printed {
-        Printed {
+    pub fn new(alloc: Global, style: Style) -> Printer {
+        Printer {
             style,
             has_result: false,
             notifications: String::new(alloc),

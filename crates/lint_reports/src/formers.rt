@@ -5,7 +5,7 @@ use cargo_platform::{Cfg, Platform, ReadError, values_of};
 use former_names::{
     Bounds, Release, Verdict, former_fact, former_target, has_former_value, name_now,
 };
-use manifest_lints_findings::{Children, Level, Lint, Site, WrongPlace};
+use manifest_lints_findings::{Children, Level, Lint, Site, TableDiagnostic};
 use manifests::{Declared, Targets, target_keys};
 use predicate_classes::key_spans::spans_of;
 use std::alloc::{AllocError, Global};
@@ -85,7 +85,7 @@ fn former(
     name: &str,
     bounds: Bounds,
     project: &Project<'_>,
-) -> Result<Option<WrongPlace>, AllocError> {
+) -> Result<Option<TableDiagnostic>, AllocError> {
     let verdict = bounds.verdict(project.rustc(), project.rust_version);
     if verdict == Verdict::Known {
         return Ok(None);
@@ -96,7 +96,7 @@ fn former(
     } else {
         Children::none(alloc)
     };
-    Ok(Some(WrongPlace {
+    Ok(Some(TableDiagnostic {
         lint: Lint::Former,
         level: if is_gone { Level::Warning } else { Level::Note },
         subject: String::from_str(alloc, "target")?,
@@ -114,7 +114,7 @@ fn former_of_target(
     name: &str,
     bounds: Bounds,
     project: &Project<'_>,
-) -> Result<Option<WrongPlace>, AllocError> {
+) -> Result<Option<TableDiagnostic>, AllocError> {
     let Some(mut wrong) = former(alloc, name, name, bounds, project)? else {
         return Ok(None);
     };
@@ -167,7 +167,7 @@ impl<'a> FormerFact<'a> {
         alloc: Global,
         key: &str,
         project: &Project<'_>,
-    ) -> Result<Option<WrongPlace>, AllocError> {
+    ) -> Result<Option<TableDiagnostic>, AllocError> {
         let name = self.key;
         let value = self.value;
         let fact = format!(in alloc; "{name} = \"{value}\"")?;
@@ -190,7 +190,7 @@ impl<'a> FormerFact<'a> {
 #[derive(Drop)]
 pub struct Formers {
     /// The diagnostics on these names.
-    pub found: Vec<WrongPlace>,
+    pub found: Vec<TableDiagnostic>,
     /// The facts among them, as `rustc --print cfg` printed them.
     pub facts: Vec<String>,
     /// The keys among them that are names of targets.

@@ -15,7 +15,7 @@ mod settings;
 
 pub use counts::Counts;
 pub use fields::wrong_fields;
-pub use formats::{Format, Printed, Style};
+pub use formats::{Format, Printer, Style};
 pub use formers::{Formers, Project};
 pub use on_keys::{diagnostic_of, diagnostic_of_wrong};
 pub use on_rules::{diagnostic_of_fault, diagnostic_of_unneeded};

@@ -1,7 +1,7 @@
 //! The diagnostics for findings on keys, and for what is in a wrong place.
 
 use diagnostics::{Diagnostic, Label, default_level};
-use manifest_lints_findings::{Children, Finding, Lint, Report, Site, WrongPlace};
+use manifest_lints_findings::{Children, Finding, Lint, Report, Site, TableDiagnostic};
 use manifests::locations::{Location, Locations};
 use std::alloc::{AllocError, Global};
 use toml_spans::Span;
@@ -245,7 +245,7 @@ fn place_of_site(
 fn places_of_wrong(
     alloc: Global,
     locations: &Locations,
-    wrong: &WrongPlace,
+    wrong: &TableDiagnostic,
 ) -> Result<Vec<Location>, AllocError> {
     let mut found = Vec::new(alloc);
     let key = match &wrong.key {
@@ -281,7 +281,7 @@ fn site_again(
 fn replaced_by(
     alloc: Global,
     locations: &Locations,
-    wrong: &WrongPlace,
+    wrong: &TableDiagnostic,
 ) -> Result<(Option<Location>, Vec<Location>), AllocError> {
     let is_suggested = wrong.suggestion.is_some();
     if wrong.key.is_some() || !is_suggested {
@@ -304,7 +304,7 @@ fn owned(alloc: Global, text: Option<&str>) -> Result<Option<String>, AllocError
 pub fn diagnostic_of_wrong(
     alloc: Global,
     locations: &Locations,
-    wrong: &WrongPlace,
+    wrong: &TableDiagnostic,
 ) -> Result<Diagnostic, AllocError> {
     let (key_at, also_at) = replaced_by(alloc, locations, wrong)?;
     Ok(Diagnostic {

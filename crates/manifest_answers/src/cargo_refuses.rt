@@ -1,6 +1,6 @@
 //! Finds what Cargo rejects in the tables of dependencies of a manifest, and in the fields that it inherits.
 
-use crate::dependency_rules::{Inheriting, Ruled, rejected_dependency};
+use crate::dependency_rules::{CheckedDependency, WorkspaceRoot, rejected_dependency};
 use cargo_platform::shown_start;
 use input_limits::without_mark;
 use manifest_lints_findings::{Level, shown_table, wrong_places};
@@ -112,11 +112,11 @@ fn first_in(
     place: Place<'_>,
     members: &Table,
     kind: Kind,
-    inheriting: Inheriting<'_>,
+    inheriting: WorkspaceRoot<'_>,
 ) -> Result<Option<At>, AllocError> {
     for (name, value) in members.iter() {
         let name = name.as_str();
-        let ruled = Ruled {
+        let ruled = CheckedDependency {
             name,
             value,
             kind,
@@ -149,7 +149,7 @@ fn rejected_of_kind(
     alloc: Global,
     place: Place<'_>,
     kind: Kind,
-    inheriting: Inheriting<'_>,
+    inheriting: WorkspaceRoot<'_>,
 ) -> Result<Option<At>, AllocError> {
     let Some(value) = table_of(place.table, kind) else {
         return Ok(None);
@@ -171,7 +171,7 @@ fn rejected_of_kind(
 fn rejected_in(
     alloc: Global,
     place: Place<'_>,
-    inheriting: Inheriting<'_>,
+    inheriting: WorkspaceRoot<'_>,
 ) -> Result<Option<At>, AllocError> {
     for kind in KINDS {
         let found = rejected_of_kind(alloc, place, kind, inheriting)?;
@@ -186,7 +186,7 @@ fn rejected_in(
 fn rejected_below(
     alloc: Global,
     manifest: &Table,
-    inheriting: Inheriting<'_>,
+    inheriting: WorkspaceRoot<'_>,
 ) -> Result<Option<At>, AllocError> {
     let Some(Value::Table(targets)) = manifest.get("target") else {
         return Ok(None);
@@ -257,7 +257,7 @@ fn lacks_edition(manifest: &Table) -> bool {
 fn rejected_edition(
     alloc: Global,
     manifest: &Table,
-    inheriting: Inheriting<'_>,
+    inheriting: WorkspaceRoot<'_>,
 ) -> Result<Option<At>, AllocError> {
     if !inheriting.is_known || !lacks_edition(manifest) {
         return Ok(None);
@@ -273,7 +273,7 @@ fn rejected_edition(
 fn first_rejected(
     alloc: Global,
     manifest: &Table,
-    inheriting: Inheriting<'_>,
+    inheriting: WorkspaceRoot<'_>,
 ) -> Result<Option<At>, AllocError> {
     let found = rejected_edition(alloc, manifest, inheriting)?;
     if found.is_some() {
@@ -304,7 +304,7 @@ fn first_rejected(
 pub fn rejected_by_cargo(
     alloc: Global,
     document: &Document,
-    inheriting: Inheriting<'_>,
+    inheriting: WorkspaceRoot<'_>,
 ) -> Result<Option<Rejected>, AllocError> {
     match first_rejected(alloc, &document.table, inheriting)? {
         Some(

@@ -40,14 +40,14 @@ const EXCLUSIVE: [(&str, &str); 4] = [
 
 /// The root that a manifest inherits from, as far as that is known.
 #[derive(Clone, Copy, Drop)]
-pub struct Inheriting<'w> {
+pub struct WorkspaceRoot<'w> {
     /// True if the workspace of the manifest was searched.
     pub is_known: bool,
     /// The table `workspace` of its root.
     pub workspace: Option<&'w Table>,
 }
 
-impl<'w> Inheriting<'w> {
+impl<'w> WorkspaceRoot<'w> {
     /// Returns the table `workspace.dependencies` of the root.
     fn shared(self) -> Option<&'w Table> {
         self.workspace?.get("dependencies")?.as_table()
@@ -56,7 +56,7 @@ impl<'w> Inheriting<'w> {
 
 /// A dependency of a manifest, and what the rules about it depend on.
 #[derive(Clone, Copy, Drop)]
-pub struct Ruled<'m> {
+pub struct CheckedDependency<'m> {
     pub name: &'m str,
     pub value: &'m Value,
     pub kind: Kind,
@@ -194,7 +194,7 @@ fn bad_text(alloc: Global, table: &Table) -> Result<Option<String>, AllocError> 
 /// fields.
 fn bad_table(
     alloc: Global,
-    ruled: &Ruled<'_>,
+    ruled: &CheckedDependency<'_>,
     table: &Table,
 ) -> Result<Option<String>, AllocError> {
     if !has_source(table) {
@@ -233,9 +233,9 @@ fn bad_table(
 /// no reason.
 fn bad_inherited(
     alloc: Global,
-    ruled: &Ruled<'_>,
+    ruled: &CheckedDependency<'_>,
     table: &Table,
-    inheriting: Inheriting<'_>,
+    inheriting: WorkspaceRoot<'_>,
 ) -> Result<Option<String>, AllocError> {
     if !inheriting.is_known {
         return Ok(None);
@@ -253,9 +253,9 @@ fn bad_inherited(
 /// Returns the message on the first thing that Cargo rejects in a table that is a dependency.
 fn bad_fields(
     alloc: Global,
-    ruled: &Ruled<'_>,
+    ruled: &CheckedDependency<'_>,
     table: &Table,
-    inheriting: Inheriting<'_>,
+    inheriting: WorkspaceRoot<'_>,
 ) -> Result<Option<String>, AllocError> {
     match table.get("workspace").and_then(Value::as_bool) {
         Some(true) => bad_inherited(alloc, ruled, table, inheriting),
@@ -276,8 +276,8 @@ fn bad_fields(
 /// Fails only if an allocation fails.
 pub fn rejected_dependency(
     alloc: Global,
-    ruled: &Ruled<'_>,
-    inheriting: Inheriting<'_>,
+    ruled: &CheckedDependency<'_>,
+    inheriting: WorkspaceRoot<'_>,
 ) -> Result<Option<String>, AllocError> {
     if !is_name(ruled.name) {
         return fixed(alloc, "this is not a valid name of a package");

@@ -9,7 +9,7 @@ use std::alloc::{AllocError, Global};
 
 /// The target of a selection, and the format of its errors.
 #[derive(Clone, Copy, Drop)]
-pub struct SelectionErrors<'a> {
+pub struct ErrorReporter<'a> {
     /// The name of the target, if it is the only one.
     pub target: Option<&'a str>,
     /// One object a line.
@@ -71,7 +71,7 @@ struct SelectionError<'a> {
     target: Option<&'a str>,
 }
 
-impl<'a> SelectionErrors<'a> {
+impl<'a> ErrorReporter<'a> {
     /// Formats an error as a line of JSON.
     fn json_line(&self, alloc: Global, fault: &Fault<'a, 'a>) -> Result<String, AllocError> {
         let error = Cause {

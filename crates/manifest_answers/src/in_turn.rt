@@ -6,7 +6,7 @@ ghost use Rattle.manifest_answers.specs.Deep.{HasNoDeepKey};
 
 use crate::cargo_refuses::Rejected;
 use crate::deep::first_deep;
-use crate::taking::{Taken, taken_at};
+use crate::normalizing::{NormalizedManifest, read_normalized};
 use input_limits::Unusable;
 use key_answers::answer::{Answer, Status};
 use manifests::reading::Manifest;
@@ -59,7 +59,7 @@ pub fn answer_each<R: Files + Input + Env + AllocGlobal, Q: Question>(
 /// Adds the answer on a manifest that is read.
 fn add_answer_on_read<Q: Question>(
     alloc: Global,
-    taken: &Taken,
+    taken: &NormalizedManifest,
     question: &mut Q,
     whole: &mut Answer,
 ) -> Result<(), AllocError> {
@@ -96,7 +96,7 @@ fn add_answer_on<R: Files + Input + Env + AllocGlobal, Q: Question>(
     whole: &mut Answer,
 ) -> Result<(), AllocError> {
     let alloc = rt.alloc();
-    match taken_at(rt, documents, path, question.asks_for_lines()) {
+    match read_normalized(rt, documents, path, question.asks_for_lines()) {
         Ok(taken) => add_answer_on_read(alloc, &taken, question, whole),
         Err(error) => {
             let unusable = error.unusable(alloc)?;

@@ -8,7 +8,7 @@ mod described;
 pub mod faults;
 pub mod given_targets;
 pub mod in_turn;
+pub mod normalizing;
 mod opened;
 pub mod questions;
 pub mod selecting;
-pub mod taking;

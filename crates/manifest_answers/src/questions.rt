@@ -15,7 +15,7 @@ use key_answers::json_lines;
 use key_answers::printing::{fact_lines, refused_cfg, refused_fact, shown_name};
 use key_answers::targets::names_of;
 use known_targets::{COUNT, KnownTarget, RUSTC_VERSION, TargetSet, having, matching};
-use manifest_lints_findings::{Code, Finding, KnownFacts, nearest_target, unknown_in};
+use manifest_lints_findings::{Code, Finding, KnownFacts, lint_condition, nearest_target};
 use serde::Serialize;
 use std::alloc::{AllocError, Global};
 
@@ -88,7 +88,7 @@ fn unknown_lines(
 ) -> Result<String, AllocError> {
     let known_facts = KnownFacts::new(alloc)?;
     let mut text = String::new(alloc);
-    for finding in &unknown_in(alloc, &known_facts, key, condition)? {
+    for finding in &lint_condition(alloc, &known_facts, key, condition)? {
         if is_reported(finding.code, has_facts) {
             push_finding(&mut text, alloc, finding)?;
         }
@@ -210,7 +210,7 @@ fn within_cfg(alloc: Global, name: &str) -> Result<Option<String>, AllocError> {
 fn suggested_key(alloc: Global, name: &str) -> Result<Option<String>, AllocError> {
     let condition = Platform::Name(String::from_str(alloc, name)?);
     let known_facts = KnownFacts::new(alloc)?;
-    for finding in &unknown_in(alloc, &known_facts, name, condition)? {
+    for finding in &lint_condition(alloc, &known_facts, name, condition)? {
         if let Some(key) = &finding.suggestion {
             return Ok(Some(key.clone()?));
         }

@@ -2,7 +2,7 @@
 
 use crate::cargo_refuses::Rejected;
 use crate::described::{Described, first_line};
-use crate::faults::{Fault, SelectionErrors, span_of};
+use crate::faults::{ErrorReporter, Fault, span_of};
 use crate::given_targets::FactsFrom;
 use crate::in_turn::{Question, answer_each};
 use crate::opened::OpenNames;
@@ -292,7 +292,7 @@ fn fault_in<'a, 'm>(
 /// Returns the answer on a manifest from which nothing is selected.
 fn refused<'a>(
     alloc: Global,
-    errors: &SelectionErrors<'_>,
+    errors: &ErrorReporter<'_>,
     manifest: &'a Manifest,
     error: &SelectError<'a>,
 ) -> Result<Answer, AllocError> {
@@ -305,7 +305,7 @@ fn refused<'a>(
 /// Returns the answer on a manifest that Cargo rejects.
 fn answer_on_rejected(
     alloc: Global,
-    errors: &SelectionErrors<'_>,
+    errors: &ErrorReporter<'_>,
     path: &str,
     rejected: &Rejected,
 ) -> Result<Answer, AllocError> {
@@ -326,7 +326,7 @@ struct RowsOn<'a> {
     manifest: &'a Manifest,
     /// The name of the target.
     target: &'a str,
-    errors: SelectionErrors<'a>,
+    errors: ErrorReporter<'a>,
 }
 
 /// Appends what is printed of the rows, a line each; objects if JSON is selected.
@@ -364,7 +364,7 @@ struct KnownOf {
 /// `select`: the targets and the host, and how the answer is printed.
 #[derive(Drop)]
 struct Selecting<'a> {
-    errors: SelectionErrors<'a>,
+    errors: ErrorReporter<'a>,
     targets: &'a [KnownOf],
     open: &'a [&'a str],
     host: Host<'a>,
@@ -453,7 +453,7 @@ pub struct Target {
 #[derive(Clone, Copy, Drop)]
 pub struct Selection<'a> {
     /// The name of the target, if it is the only one, and the output format.
-    pub errors: SelectionErrors<'a>,
+    pub errors: ErrorReporter<'a>,
     /// The names and keys whose facts are open.
     pub open: &'a [&'a str],
     /// The source of the facts of targets.

@@ -5,18 +5,18 @@ use crate::graphs::graph_answer;
 use crate::levels::{command_rules, fails_from};
 use crate::limits::{limit_of, reason_in, text_of};
 use crate::linting::{LintOptions, lint_each};
-use crate::named::{Named, named_manifests};
+use crate::manifest_paths::{SelectedManifests, find_manifests};
 use crate::other_rustc::OtherRustc;
-use crate::styles::{Shown, style_of};
-use crate::target_names::{EVERY, Flagged, flagged_targets, named_targets};
+use crate::styles::{OutputContext, style_of};
+use crate::target_names::{ALL_TARGETS, TargetsWithFlags, named_targets, targets_with_flags};
 use crate::target_specs::with_custom_targets;
 use cargo_platform::shown_text;
 use clap::ArgMatches;
 use input_limits::{INPUT, Unusable};
 use key_answers::answer::{Answer, Refusal, Status, answered};
 use key_answers::comparing::compare;
-use lint_fixes::Fixing;
-use manifest_answers::faults::SelectionErrors;
+use lint_fixes::FixOptions;
+use manifest_answers::faults::ErrorReporter;
 use manifest_answers::given_targets::{FactsFrom, GivenTargets};
 use manifest_answers::questions;
 use manifest_answers::selecting::{Selection, select_each};
@@ -87,10 +87,10 @@ fn match_answer<R: Files + Input + AllocGlobal>(
 }
 
 /// Returns the target of `select`, if it is the only one, and the output format.
-fn selection_errors<'a>(matches: &ArgMatches<'a>) -> SelectionErrors<'a> {
+fn selection_errors<'a>(matches: &ArgMatches<'a>) -> ErrorReporter<'a> {
     let names = matches.get_strs("target").unwrap_or(&[]);
-    let is_one = names.len() == 1 && word(matches, "target") != EVERY;
-    SelectionErrors {
+    let is_one = names.len() == 1 && word(matches, "target") != ALL_TARGETS;
+    ErrorReporter {
         target: if is_one {
             matches.get_str("target")
         } else {
@@ -105,7 +105,7 @@ fn selected_by<R: Files + Input + Env + AllocGlobal + Clone + Drop>(
     rt: &R,
     matches: &ArgMatches<'_>,
     from: FactsFrom<'_>,
-    flagged: &Flagged,
+    flagged: &TargetsWithFlags,
 ) -> Result<Answer, Refusal> {
     let alloc = rt.alloc();
     let errors = selection_errors(matches);
@@ -116,11 +116,11 @@ fn selected_by<R: Files + Input + Env + AllocGlobal + Clone + Drop>(
         host: matches.get_str("host"),
     };
     let mut documents = Documents::new(alloc, limit_of(matches));
-    let Named {
+    let SelectedManifests {
         paths,
         unusable,
         warnings,
-    } = named_manifests(rt, &mut documents, matches)?;
+    } = find_manifests(rt, &mut documents, matches)?;
     let mut answer = errors.report_each(alloc, &unusable)?;
     answer.errors.push_str(warnings.as_str())?;
     answer.errors.push_str(flagged.notes.as_str())?;
@@ -139,7 +139,7 @@ fn select_answer<R: Files + Input + Env + AllocGlobal + Clone + Drop>(
     let given = given_targets(rt, matches)?;
     let from = facts_from(&lines, &given);
     let names = named_targets(rt.alloc(), matches, from)?;
-    let flagged = flagged_targets(rt, matches, &names, from)?;
+    let flagged = targets_with_flags(rt, matches, &names, from)?;
     selected_by(rt, matches, from, &flagged)
 }
 
@@ -191,11 +191,11 @@ fn unusable_targets(
 }
 
 /// Returns how suggestions are applied, if `--fix` is given.
-fn fixing_of(matches: &ArgMatches<'_>) -> Option<Fixing> {
+fn fixing_of(matches: &ArgMatches<'_>) -> Option<FixOptions> {
     if !matches.get_flag("fix") {
         return None;
     }
-    Some(Fixing {
+    Some(FixOptions {
         is_dry: matches.get_flag("dry-run"),
         is_unsafe: matches.get_flag("unsafe-fixes"),
         is_quiet: matches.get_flag("quiet"),
@@ -219,7 +219,7 @@ fn fixes_input(matches: &ArgMatches<'_>, paths: &[String]) -> bool {
 fn lint_answer<R: Files + Input + Env + AllocGlobal + Clone + Drop>(
     rt: &R,
     matches: &ArgMatches<'_>,
-    shown: &Shown<'_>,
+    shown: &OutputContext<'_>,
 ) -> Result<Answer, Refusal> {
     let alloc = rt.alloc();
     if matches.get_flag("list-codes") {
@@ -248,11 +248,11 @@ fn lint_answer<R: Files + Input + Env + AllocGlobal + Clone + Drop>(
         }
         Err(Refusal::Memory(refused)) => return Err(refused.into()),
     }
-    let Named {
+    let SelectedManifests {
         paths,
         unusable,
         warnings,
-    } = named_manifests(rt, &mut documents, matches)?;
+    } = find_manifests(rt, &mut documents, matches)?;
     if fixes_input(matches, &paths) {
         let line = String::from_str(alloc, "error: `--fix` can't change standard input\n")?;
         return Ok(Answer::unusable(alloc, line));
@@ -327,7 +327,7 @@ fn question_answer<R: Files + Input + AllocGlobal>(
 pub fn answer_to<R: Files + Input + Env + AllocGlobal + Clone + Drop>(
     rt: &R,
     matches: &ArgMatches<'_>,
-    shown: &Shown<'_>,
+    shown: &OutputContext<'_>,
 ) -> Result<Answer, AllocError> {
     if let Some(m) = matches.subcommand_matches("lint") {
         return answered(rt.alloc(), lint_answer(rt, m, shown));

@@ -7,7 +7,7 @@ use crate::reports::{Report, report_on};
 use crate::words::command_given;
 use cargo_platform::shown_text;
 use clap::ArgMatches;
-use graph_queries::query::{GraphArguments, Made, Requested};
+use graph_queries::query::{GraphArguments, Provenance, Requested};
 use input_limits::INPUT;
 use key_answers::answer::{Answer, Refusal, answered};
 use manifest_answers::given_targets::GivenTargets;
@@ -151,7 +151,7 @@ fn answer_with<R: Files + Input + Env + AllocGlobal>(
         None => None,
     };
     let html = match matches.get_str("html") {
-        Some(_) => Some(Made {
+        Some(_) => Some(Provenance {
             command: command.as_str(),
             seconds,
         }),

@@ -10,7 +10,7 @@ mod levels;
 mod limits;
 mod linting;
 mod locks;
-mod named;
+mod manifest_paths;
 mod other_rustc;
 mod project_targets;
 mod reports;
@@ -28,7 +28,7 @@ use key_answers::answer::{Answer, Status};
 use known_targets::RUSTC_VERSION;
 use std::alloc::{AllocError, Global};
 use std::rt::{Env, Files};
-use styles::Shown;
+use styles::OutputContext;
 use words::words_given;
 
 /// The version of the program.
@@ -70,7 +70,7 @@ pub fn run<R: Input + Env + Files + AllocGlobal + Clone + Drop>(
         Ok(matches) => matches,
         Err(error) => return not_a_command(alloc, &error),
     };
-    let shown = Shown {
+    let shown = OutputContext {
         on_terminal,
         version: version.as_str(),
     };

@@ -1,9 +1,9 @@
 //! `lint`: the diagnostics on manifests and configurations.
 
-mod unusable;
+mod loading;
 
 use crate::declaring::declare;
-use crate::other_rustc::{OtherRustc, declare_by, given_formers, judge_by};
+use crate::other_rustc::{OtherRustc, add_declared_facts, former_targets, replace_diagnostics};
 use crate::project_targets::ManifestFile;
 use crate::roots::{Root, is_unneeded};
 use cargo_configuration::{
@@ -14,20 +14,20 @@ use cargo_platform::{shown_start, shown_text};
 use diagnostics::{Diagnostic, LintLevel, Occurrence, Reported, Rule, level_by_each, status_of};
 use input_limits::{Unusable, without_mark};
 use key_answers::answer::{Answer, Status};
-use lint_fixes::{Fixes, Fixing, fix_file};
+use lint_fixes::{FixOptions, Fixes, fix_file};
 use lint_reports::{
-    Counts, Formers, Printed, Project, Settings, Style, diagnostic_of, diagnostic_of_fault,
+    Counts, Formers, Printer, Project, Settings, Style, diagnostic_of, diagnostic_of_fault,
     diagnostic_of_unneeded, diagnostic_of_wrong, wrong_fields,
 };
+use loading::{load_configuration, load_manifest, report_without_place};
 use manifest_lints::{Code, Finding, KnownFacts, Report, lint};
-use manifest_lints_findings::{WrongPlace, wrong_places};
+use manifest_lints_findings::{TableDiagnostic, table_diagnostics};
 use manifests::locations::Locations;
 use manifests::reading::Manifest;
 use std::alloc::{AllocError, Global};
 use std::mem;
 use std::rt::{Env, Files};
 use toml::Table;
-use unusable::{manifest_taken, report_without_place, usable_at};
 use workspaces::{Documents, shorter};
 
 /// The options of `lint`.
@@ -49,7 +49,7 @@ pub struct LintOptions {
     /// The rustc whose targets and facts count instead of the built-in ones.
     pub other: Option<OtherRustc>,
     /// How suggestions are applied, if `--fix` is given.
-    pub fixing: Option<Fixing>,
+    pub fixing: Option<FixOptions>,
 }
 
 impl LintOptions {
@@ -82,7 +82,7 @@ struct LintRun<'a> {
     /// The manifests that have been read.
     documents: Documents,
     counts: Counts,
-    printed: Printed,
+    printed: Printer,
     answer: Answer,
     /// The fixes of diagnostics, if these are collected, and nothing is reported.
     fixes: Option<Fixes>,
@@ -171,7 +171,7 @@ impl<'a> LintRun<'a> {
         rt: &R,
         root: &mut Root,
         is_whole: bool,
-        fixing: Fixing,
+        fixing: FixOptions,
     ) -> Result<(), AllocError> {
         let alloc = rt.alloc();
         let locations = places_at(rt, &mut self.documents, root.file.as_str())?;
@@ -319,7 +319,7 @@ struct Beside<'s> {
     /// The names that rustc knew only until some release.
     formers: Formers,
     /// The diagnostics on misplaced tables and unread fields.
-    wrong: Vec<WrongPlace>,
+    wrong: Vec<TableDiagnostic>,
 }
 
 impl<'a> LintRun<'a> {
@@ -506,7 +506,7 @@ fn report_on<'m>(
     other: Option<&OtherRustc>,
 ) -> Result<Report<'m>, AllocError> {
     let mut report = lint(alloc, &manifest.document, known_facts)?;
-    judge_by(alloc, other, &manifest.document.table, &mut report)?;
+    replace_diagnostics(alloc, other, &manifest.document.table, &mut report)?;
     Ok(report)
 }
 
@@ -519,7 +519,7 @@ fn lint_configuration<R: Files + Input + AllocGlobal>(
     run: &mut LintRun<'_>,
 ) -> Result<(), AllocError> {
     let alloc = rt.alloc();
-    let Some(mut manifest) = usable_at(rt, path, run)? else {
+    let Some(mut manifest) = load_configuration(rt, path, run)? else {
         run.counts.add_unread_configuration();
         return Ok(());
     };
@@ -528,13 +528,13 @@ fn lint_configuration<R: Files + Input + AllocGlobal>(
     let mut table = manifest_with_targets(alloc, &manifest.document.table, lints)?;
     declare(alloc, &mut table, &root.settings.facts)?;
     let other = root.other.as_ref().or(run.options.other.as_ref());
-    declare_by(alloc, other, &mut table)?;
+    add_declared_facts(alloc, other, &mut table)?;
     let settings = Settings::of(alloc, None)?;
     let project = Project {
         of_workspace: &root.settings,
         of_package: &settings,
         rust_version: None,
-        targets: given_formers(other),
+        targets: former_targets(other),
     };
     let formers = declare_formers(alloc, &mut table, &project)?;
     manifest.document.table = table;
@@ -559,7 +559,7 @@ fn lint_at<R: Files + Input + Env + AllocGlobal>(
     run: &mut LintRun<'_>,
 ) -> Result<(), AllocError> {
     let alloc = rt.alloc();
-    let Some(mut manifest) = manifest_taken(rt, path, run)? else {
+    let Some(mut manifest) = load_manifest(rt, path, run)? else {
         run.counts.add_unread_manifest();
         return Ok(());
     };
@@ -575,16 +575,16 @@ fn lint_at<R: Files + Input + Env + AllocGlobal>(
     let other = root.other.as_ref().or(run.options.other.as_ref());
     let own = file.rustc_with_targets(rt, &mut settings, other)?;
     let other = own.as_ref().or(other);
-    declare_by(alloc, other, table)?;
+    add_declared_facts(alloc, other, table)?;
     let project = Project {
         of_workspace: &root.settings,
         of_package: &settings,
         rust_version: root.rust_version_of(table),
-        targets: given_formers(other),
+        targets: former_targets(other),
     };
     let formers = declare_formers(alloc, table, &project)?;
     let report = report_on(alloc, &manifest, known_facts, other)?;
-    let wrong = wrong_places(alloc, &manifest.document.table)?;
+    let wrong = table_diagnostics(alloc, &manifest.document.table)?;
     run.counts.add_manifest(report.keys.len());
     let beside = Beside {
         settings: &settings,
@@ -627,7 +627,7 @@ fn fixes_for<R: Files + Input + Env + AllocGlobal>(
         options: run.options,
         documents: mem::replace(&mut run.documents, none),
         counts: Counts::none(),
-        printed: Printed::new(alloc, run.options.style),
+        printed: Printer::new(alloc, run.options.style),
         answer: Answer::of(alloc, String::new(alloc), Status::Fine),
         fixes: Some(Fixes::new(alloc, fixing)),
     };
@@ -718,7 +718,7 @@ pub fn lint_each<R: Files + Input + Env + AllocGlobal>(
 ) -> Result<Answer, AllocError> {
     let alloc = rt.alloc();
     let known_facts = KnownFacts::new(alloc)?;
-    let printed = Printed::new(alloc, options.style);
+    let printed = Printer::new(alloc, options.style);
     let begin = printed.begin(alloc, options.version.as_str())?;
     let mut run = LintRun {
         options,

@@ -6,10 +6,10 @@ use cargo_platform::shown_text;
 use clap::ArgMatches;
 use cyclonedx::{LockError, LockFault, LockFile, read_lock};
 use diagnostics::{Diagnostic, LintLevel, Reported, diagnostic_of_failure};
-use graph_answers::bill_of_materials::Bill;
+use graph_answers::cyclonedx_report::Bill;
 use input_limits::without_mark;
 use key_answers::answer::Refusal;
-use lint_reports::{Format, Printed, Style};
+use lint_reports::{Format, Printer, Style};
 use manifests::locations::Location;
 use std::alloc::{AllocError, Global};
 use std::rt::Files;
@@ -51,7 +51,7 @@ fn lines_of<'x>(
         colours: false,
     };
     let mut output = String::new(alloc);
-    Printed::new(alloc, style).push(&mut output, alloc, &reported)?;
+    Printer::new(alloc, style).push(&mut output, alloc, &reported)?;
     Ok(output)
 }
 

@@ -7,7 +7,7 @@ use known_targets::KnownTarget;
 use manifest_answers::given_targets::GivenTargets;
 use manifest_lints::{Code, Report};
 use manifest_lints_findings::readings::KeyMeaning;
-use manifest_lints_findings::{Children, Finding, Pointed};
+use manifest_lints_findings::{Children, Finding, SecondarySpans};
 use manifests::Declared;
 use predicate_classes::key_predicates::{key_predicates, open_names};
 use std::alloc::{AllocError, Global};
@@ -178,7 +178,7 @@ fn formers_among(alloc: Global, given: &GivenTargets) -> Result<Vec<String>, All
 
 /// Returns the names of targets that rustc knew only until some release and that the other rustc knows, if there is
 /// one.
-pub fn given_formers(other: Option<&OtherRustc>) -> &[String] {
+pub fn former_targets(other: Option<&OtherRustc>) -> &[String] {
     match other {
         Some(other) => &other.former,
         None => &[],
@@ -186,7 +186,7 @@ pub fn given_formers(other: Option<&OtherRustc>) -> &[String] {
 }
 
 /// Adds the facts of the other rustc, if there is one, to those that a manifest declares.
-pub fn declare_by(
+pub fn add_declared_facts(
     alloc: Global,
     other: Option<&OtherRustc>,
     manifest: &mut Table,
@@ -199,7 +199,7 @@ pub fn declare_by(
 
 /// Replaces the diagnostics of a report that depend on the built-in targets by those for the other rustc, if there is
 /// one.
-pub fn judge_by(
+pub fn replace_diagnostics(
     alloc: Global,
     other: Option<&OtherRustc>,
     manifest: &Table,
@@ -261,6 +261,6 @@ fn finding(alloc: Global, place: usize, code: Code, message: String) -> Finding 
         suggestion: None,
         span: None,
         snippet: None,
-        pointed: Pointed::nothing(alloc),
+        pointed: SecondarySpans::nothing(alloc),
     }
 }

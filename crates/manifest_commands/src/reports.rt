@@ -1,7 +1,7 @@
 //! The report of `graph` on the output of `cargo metadata`.
 
 use cargo_platform::shown_text;
-use graph_answers::bill_of_materials::{Bill, misplaced_format, show_bill};
+use graph_answers::cyclonedx_report::{Bill, misplaced_format, show_bill};
 use graph_answers::{
     Audit, AuditPolicy, GivenPolicy, GraphNames, arguments_by_policy, exclude, kinds_of, page_of,
     policy_of, reported_in, show_changes, show_licences,

@@ -7,7 +7,7 @@ use std::rt::Env;
 
 /// The kind of standard output, and the version of the program.
 #[derive(Clone, Copy, Drop)]
-pub struct Shown<'a> {
+pub struct OutputContext<'a> {
     /// True if standard output is a terminal.
     pub on_terminal: bool,
     pub version: &'a str,

@@ -12,7 +12,7 @@ use std::alloc::{AllocError, Global};
 use std::rt::{Env, Files};
 
 /// The value of `--target` for all known targets, or for all of `--facts-of`.
-pub const EVERY: &str = "all";
+pub const ALL_TARGETS: &str = "all";
 
 /// Returns the names of all targets whose facts are known: the known ones, or those of a file.
 fn every_name(alloc: Global, from: FactsFrom<'_>) -> Result<Vec<String>, AllocError> {
@@ -44,7 +44,7 @@ fn add_name(names: &mut Vec<String>, alloc: Global, name: &str) -> Result<(), Al
 /// Returns whether a value of `--target` stands for all targets. With `--facts` it is the name of a target.
 fn is_every(name: &str, from: FactsFrom<'_>) -> bool {
     match from {
-        FactsFrom::Known | FactsFrom::File(_) => name == EVERY,
+        FactsFrom::Known | FactsFrom::File(_) => name == ALL_TARGETS,
         FactsFrom::Lines(_) => false,
     }
 }
@@ -68,12 +68,12 @@ pub fn named_targets(
 
 /// The selected targets with the facts that are added to each, and a note on each fact that flags set.
 #[derive(Drop)]
-pub struct Flagged {
+pub struct TargetsWithFlags {
     pub targets: Vec<Target>,
     pub notes: String,
 }
 
-impl Flagged {
+impl TargetsWithFlags {
     /// Adds a target with the facts of `--cfg` and those that flags set.
     fn add(
         &mut self,
@@ -144,14 +144,14 @@ fn added_by(alloc: Global, added: &[&str], flags: &FlagFacts) -> Result<Vec<Stri
 }
 
 /// Returns the targets of these names with the facts that are added to each. Fails if a configuration is invalid.
-pub fn flagged_targets<R: Files + Input + Env + AllocGlobal>(
+pub fn targets_with_flags<R: Files + Input + Env + AllocGlobal>(
     rt: &R,
     matches: &ArgMatches<'_>,
     names: &[String],
     from: FactsFrom<'_>,
-) -> Result<Flagged, Refusal> {
+) -> Result<TargetsWithFlags, Refusal> {
     let alloc = rt.alloc();
-    let mut flagged = Flagged {
+    let mut flagged = TargetsWithFlags {
         targets: Vec::new(alloc),
         notes: String::new(alloc),
     };

@@ -1,7 +1,7 @@
 //! The custom targets that `--target-spec` adds to the known ones, or to those of `--facts-of`.
 
 use crate::limits::{reason_in, text_of};
-use crate::target_names::EVERY;
+use crate::target_names::ALL_TARGETS;
 use cargo_platform::{Platform, shown_text};
 use key_answers::answer::Refusal;
 use key_answers::conditions::read_key;
@@ -63,7 +63,7 @@ fn refused(alloc: Global, value: &str, reason: &str) -> Result<Refusal, AllocErr
 /// Returns whether a target can have this name: a key can, `--target` takes it for one target, and it is not the file
 /// name of a specification.
 fn is_target_name(alloc: Global, name: &str) -> Result<bool, AllocError> {
-    if name == EVERY || name.ends_with(".json") {
+    if name == ALL_TARGETS || name.ends_with(".json") {
         return Ok(false);
     }
     match read_key(alloc, name) {

@@ -12,7 +12,7 @@ ghost use Rattle.manifest_lints.specs.Rustcs.{AllowsRustcs};
 ghost use Rattle.manifest_lints.specs.Classes.{AreClassed, AreUnlike, IsClassOf, PutsIn, PutsMember};
 ghost use Rattle.manifest_lints.specs.Classes.{TellsNoneEquivalent};
 
-use crate::sample_sets::{beyond_targets, truths};
+use crate::sample_sets::{equivalence_fingerprint, truths};
 use cargo_platform::{CfgExpr, Platform};
 use exact_answers::{FactConstraints, MustSelect, equivalent_platform};
 use known_targets::{WORDS, matching};
@@ -187,7 +187,7 @@ impl<'a> Keys<'a> {
             return Ok(Earlier::Unlike);
         };
         let class = class_of(alloc, platform, e)?;
-        let number = beyond_targets(alloc, platform, e)?;
+        let number = equivalence_fingerprint(alloc, platform, e)?;
         let found = self.as_true_among(alloc, class, number, platform, known, budget)?;
         if !found.is_unlike() {
             return Ok(found);

@@ -325,7 +325,7 @@ fn sum_apart(alloc: Global, e: &CfgExpr, pairs: &[Pair<'_>]) -> Result<u64, Allo
 /// Returns a number that is the same for conditions that are equivalent over each possible set of facts. It depends on
 /// their truth values over sets in which a key has a value that no known target has. Returns `None` if there are too
 /// many of these values. Fails if memory is refused.
-pub fn beyond_targets(
+pub fn equivalence_fingerprint(
     alloc: Global,
     platform: &Platform,
     e: &CfgExpr,

@@ -18,7 +18,7 @@ use Rattle.manifest_lints_findings.specs.declared.codes.Code.TheVariants as code
 use Rattle.manifest_lints_findings.specs.declared.codes.Level.TheVariants as level
 use Rattle.manifest_lints_findings.specs.declared.findings.Finding.{Finding}
 use Rattle.manifest_lints_findings.specs.declared.known_keys.KnownKey.{KnownKey}
-use Rattle.manifest_lints_findings.specs.declared.pointing.Pointed.{Pointed}
+use Rattle.manifest_lints_findings.specs.declared.pointing.SecondarySpans.{SecondarySpans}
 use Rattle.manifest_lints_findings.specs.declared.wording.TheConstants.{MOST_SHOWN}
 
 -- the names and pairs that a diagnostic of this lint is about
@@ -44,7 +44,7 @@ fields_of code.NoTable value = no_table_names value
 fields_of _ value = []
 
 -- the diagnostic points to these names and pairs, and to these fields
-pub record PointsTo (c : Code) (key : KnownKey) (found : Pointed) : Type 0 where
+pub record PointsTo (c : Code) (key : KnownKey) (found : SecondarySpans) : Type 0 where
   pub facts : found.facts.items ≡ spans_of (choice_of c) key.predicates.items
   pub fields : map (λ s. string_bytes s) found.fields.items ≡ fields_of c (data_at key.read.now.value)
 
@@ -54,7 +54,7 @@ PointsToKey code.Same key found = option_map (λ s. string_bytes s) found ≡ So
 PointsToKey code.Equivalent key found = option_map (λ s. string_bytes s) found ≡ Some key
 PointsToKey _ key found = found ≡ None
 
-abbrev pub PointsToNothing : Pointed → Type 0
+abbrev pub PointsToNothing : SecondarySpans → Type 0
 PointsToNothing found = (found.facts.items ≡ []) × (found.fields.items ≡ []) × (found.earlier ≡ None)
 
 -- the diagnostic on a `target` that is not a table

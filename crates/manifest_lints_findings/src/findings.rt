@@ -6,7 +6,7 @@ ghost use Rattle.manifest_lints_findings.specs.Pointed.{IsOnTarget};
 
 use crate::codes::{Code, Level};
 use crate::notes_and_helps::Children;
-use crate::pointing::Pointed;
+use crate::pointing::SecondarySpans;
 use crate::readings::ReadKey;
 use std::alloc::{AllocError, Global};
 use std::ops::Range;
@@ -31,7 +31,7 @@ pub struct Finding {
     /// The two lines that show the error in a rejected key.
     pub snippet: Option<String>,
     /// What it points to besides the key.
-    pub pointed: Pointed,
+    pub pointed: SecondarySpans,
 }
 
 /// The keys of a manifest, the diagnostics on them, and the keys about which an answer is not known.
@@ -61,6 +61,6 @@ pub fn target_is_no_table(alloc: Global) -> Result<Finding, AllocError>
         suggestion: None,
         span: None,
         snippet: None,
-        pointed: Pointed::nothing(alloc),
+        pointed: SecondarySpans::nothing(alloc),
     })
 }

@@ -13,7 +13,7 @@ use crate::findings::Finding;
 use crate::known_keys::KnownKey;
 use crate::messages::message_of;
 use crate::notes_and_helps::children_of;
-use crate::pointing::pointed_by;
+use crate::pointing::secondary_spans;
 use crate::readings::KeyMeaning;
 use crate::suggestions::{KnownFacts, suggestion_of};
 use std::alloc::{AllocError, Global};
@@ -73,7 +73,7 @@ pub fn finding_on(
         suggestion,
         span: None,
         snippet: None,
-        pointed: pointed_by(alloc, key, other, code)?,
+        pointed: secondary_spans(alloc, key, other, code)?,
     };
     match (code, &key.read.spelled) {
         (Code::Refused, KeyMeaning::Refused(error)) => Ok(Finding {

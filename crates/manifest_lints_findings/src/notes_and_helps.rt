@@ -119,13 +119,13 @@ const OWN: &str = "a custom target specification may have it";
 const OWN_FACTS: &str = "a custom target specification may have them";
 
 /// The note on a fact that only flags set.
-const FLAGGED: &str = "only `--cfg` in RUSTFLAGS can set it, not a build script";
+const FLAG_DEPENDENT_KEYS: &str = "only `--cfg` in RUSTFLAGS can set it, not a build script";
 
 /// The note on a fact that depends on a profile.
 const OF_PROFILES: &str = "no profile selects dependencies";
 
 /// The note on a value of `panic` that no flag sets.
-const PANICS: &str = "flags set `panic` to `abort`, `immediate-abort` or `unwind`";
+const PANIC_VALUES: &str = "flags set `panic` to `abort`, `immediate-abort` or `unwind`";
 
 /// Returns the note on a key that only Cargo accepts: Cargo's warnings.
 fn by_cargo_note(alloc: Global, marked: &CargoReading) -> Result<String, AllocError>
@@ -226,7 +226,7 @@ fn notes_on_mistakes(
         notes.push(String::from_str(alloc, OF_PROFILES)?)?;
     }
     if mistakes.iter().any(|it| is_panic(it.fact)) {
-        notes.push(String::from_str(alloc, PANICS)?)?;
+        notes.push(String::from_str(alloc, PANIC_VALUES)?)?;
     }
     if !chosen(alloc, &mistakes, Choice::NoFeature)?.is_empty() {
         notes.push(String::from_str(alloc, OWN)?)?;
@@ -240,7 +240,7 @@ fn notes_on_custom(alloc: Global, key: &KnownKey<'_>) -> Result<Vec<String>, All
     if chosen(alloc, &custom, Choice::Stable)?.is_empty() {
         return Ok(Vec::new(alloc));
     }
-    only_words(alloc, FLAGGED)
+    only_words(alloc, FLAG_DEPENDENT_KEYS)
 }
 
 /// Returns the helps of the diagnostic of this lint.

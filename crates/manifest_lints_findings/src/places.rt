@@ -24,7 +24,7 @@ pub enum Site {
 
 /// A diagnostic on a table, or on a part of a table, that Cargo may not read as its author expects.
 #[derive(Drop)]
-pub struct WrongPlace {
+pub struct TableDiagnostic {
     /// The lint.
     pub lint: Lint,
     pub level: Level,
@@ -68,9 +68,14 @@ fn has_keys(value: &Value) -> bool {
 }
 
 /// Returns the diagnostic on a table of this name, which Cargo does not read.
-fn unread(alloc: Global, name: &str, path: String, help: String) -> Result<WrongPlace, AllocError> {
+fn unread(
+    alloc: Global,
+    name: &str,
+    path: String,
+    help: String,
+) -> Result<TableDiagnostic, AllocError> {
     let name = shown_start(alloc, name)?;
-    Ok(WrongPlace {
+    Ok(TableDiagnostic {
         lint: Lint::Misplaced,
         level: Level::Warning,
         subject: name,
@@ -87,7 +92,7 @@ fn add_unread(
     alloc: Global,
     name: &str,
     meant: &str,
-    found: &mut Vec<WrongPlace>,
+    found: &mut Vec<TableDiagnostic>,
 ) -> Result<(), AllocError> {
     let path = path_of(alloc, &[name])?;
     let meant = shown_start(alloc, meant)?;
@@ -101,7 +106,7 @@ fn add_of_name(
     alloc: Global,
     name: &str,
     value: &Value,
-    found: &mut Vec<WrongPlace>,
+    found: &mut Vec<TableDiagnostic>,
 ) -> Result<(), AllocError> {
     if name.starts_with("cfg(") {
         let meant = format!(in alloc; "target.'{name}'")?;
@@ -126,7 +131,11 @@ fn target_in<'a>(manifest: &'a Table, part: &str) -> Option<&'a Value> {
 }
 
 /// Adds the diagnostic on `target` in the table `part` of a manifest, which Cargo does not read.
-fn add_inside(alloc: Global, part: &str, found: &mut Vec<WrongPlace>) -> Result<(), AllocError> {
+fn add_inside(
+    alloc: Global,
+    part: &str,
+    found: &mut Vec<TableDiagnostic>,
+) -> Result<(), AllocError> {
     let path = path_of(alloc, &[part, "target"])?;
     let name = format!(in alloc; "{part}.target")?;
     let help = format!(in alloc;
@@ -141,7 +150,7 @@ fn add_inside(alloc: Global, part: &str, found: &mut Vec<WrongPlace>) -> Result<
 pub fn add_at_top(
     alloc: Global,
     manifest: &Table,
-    found: &mut Vec<WrongPlace>,
+    found: &mut Vec<TableDiagnostic>,
 ) -> Result<(), AllocError> {
     for (name, value) in manifest.iter() {
         add_of_name(alloc, name.as_str(), value, found)?;
@@ -194,7 +203,7 @@ impl<'a> PackageTable<'a> {
         member: &str,
         key: &str,
         level: Level,
-    ) -> Result<WrongPlace, AllocError> {
+    ) -> Result<TableDiagnostic, AllocError> {
         let table = self.shown(alloc)?;
         let shown = shown_start(alloc, member)?;
         let (subject, message) = if member == TARGET {
@@ -204,7 +213,7 @@ impl<'a> PackageTable<'a> {
             let message = "Cargo rejects this package name";
             (format!(in alloc; "{table}.'{shown}'")?, message)
         };
-        Ok(WrongPlace {
+        Ok(TableDiagnostic {
             lint: Lint::Misplaced,
             level,
             subject,
@@ -255,7 +264,7 @@ fn add_as_package(
     alloc: Global,
     within: &PackageTable<'_>,
     package: &Table,
-    found: &mut Vec<WrongPlace>,
+    found: &mut Vec<TableDiagnostic>,
 ) -> Result<(), AllocError> {
     for (key, _) in package.iter() {
         if is_key(key.as_str()) {
@@ -271,7 +280,7 @@ fn add_as_package(
 fn add_in_table(
     alloc: Global,
     within: &PackageTable<'_>,
-    found: &mut Vec<WrongPlace>,
+    found: &mut Vec<TableDiagnostic>,
 ) -> Result<(), AllocError> {
     for (key, _) in within.table.iter() {
         let key = key.as_str();
@@ -289,7 +298,7 @@ fn add_in_table(
 fn add_among_packages(
     alloc: Global,
     manifest: &Table,
-    found: &mut Vec<WrongPlace>,
+    found: &mut Vec<TableDiagnostic>,
 ) -> Result<(), AllocError> {
     for name in TABLES {
         if let Some(Value::Table(table)) = manifest.get(name) {
@@ -378,10 +387,10 @@ fn underscored(
     names: (&str, &'static str),
     is_taken: bool,
     is_refused: bool,
-) -> Result<WrongPlace, AllocError> {
+) -> Result<TableDiagnostic, AllocError> {
     let (name, other) = names;
     let help = underscored_help(alloc, other, is_taken)?;
-    Ok(WrongPlace {
+    Ok(TableDiagnostic {
         lint: Lint::Underscored,
         level: if is_refused {
             Level::Error
@@ -404,7 +413,7 @@ fn add_underscored(
     table: &Table,
     key: Option<&str>,
     is_refused: bool,
-    found: &mut Vec<WrongPlace>,
+    found: &mut Vec<TableDiagnostic>,
 ) -> Result<(), AllocError> {
     for (name, other) in UNDERSCORES {
         if table.get(name).is_some() {
@@ -417,7 +426,10 @@ fn add_underscored(
 
 /// Returns the diagnostics on tables of a manifest that are meant for targets but are defined elsewhere, and on tables
 /// with underscores in their names. Fails if memory is refused.
-pub fn wrong_places(alloc: Global, manifest: &Table) -> Result<Vec<WrongPlace>, AllocError> {
+pub fn table_diagnostics(
+    alloc: Global,
+    manifest: &Table,
+) -> Result<Vec<TableDiagnostic>, AllocError> {
     let mut found = Vec::new(alloc);
     add_at_top(alloc, manifest, &mut found)?;
     add_among_packages(alloc, manifest, &mut found)?;

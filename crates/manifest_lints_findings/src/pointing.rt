@@ -17,7 +17,7 @@ use toml_spans::Span;
 
 /// The parts of a manifest that a diagnostic on a key points to besides the key.
 #[derive(Drop)]
-pub struct Pointed {
+pub struct SecondarySpans {
     /// The spans of the names and pairs at fault, in the key, in bytes.
     pub facts: Vec<Span>,
     /// The names of the fields of the key that are at fault.
@@ -26,12 +26,12 @@ pub struct Pointed {
     pub earlier: Option<String>,
 }
 
-impl Pointed {
+impl SecondarySpans {
     /// Returns no parts.
-    pub fn nothing(alloc: Global) -> Pointed
+    pub fn nothing(alloc: Global) -> SecondarySpans
         ensures { PointsToNothing result }
     {
-        Pointed {
+        SecondarySpans {
             facts: Vec::new(alloc),
             fields: Vec::new(alloc),
             earlier: None,
@@ -106,16 +106,16 @@ fn earlier_of(alloc: Global, other: &str, code: Code) -> Result<Option<String>, 
 
 /// Returns the parts that the diagnostic of this lint points to. `other` is the earlier key that is the same or
 /// equivalent. Fails if memory is refused.
-pub fn pointed_by(
+pub fn secondary_spans(
     alloc: Global,
     key: &KnownKey<'_>,
     other: &str,
     code: Code,
-) -> Result<Pointed, AllocError>
+) -> Result<SecondarySpans, AllocError>
     ensures parts { IfOk result (PointsTo code key.now) }
     ensures earlier { IfOk result (λ found. PointsToKey code other.now found.earlier) }
 {
-    Ok(Pointed {
+    Ok(SecondarySpans {
         facts: facts_at_fault(alloc, &key.predicates, code)?,
         fields: fields_at_fault(alloc, key, code)?,
         earlier: earlier_of(alloc, other, code)?,

@@ -1,7 +1,7 @@
 //! A rejected key with its mistakes corrected, each by a fixed rule.
 
 use known_targets::KnownTarget;
-use predicate_classes::rustc_names::VALUED;
+use predicate_classes::rustc_names::KEYS_WITH_VALUES;
 use std::alloc::{AllocError, Global};
 
 /// A piece of a rejected key.
@@ -252,7 +252,7 @@ impl<'a> Repair<'a> {
             Piece::Word(_) => true,
             _ => false,
         };
-        if is_join(word) || is_followed && VALUED.contains(&word) {
+        if is_join(word) || is_followed && KEYS_WITH_VALUES.contains(&word) {
             return Ok(None);
         }
         self.add_name(word)?;

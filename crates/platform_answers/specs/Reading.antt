@@ -2,15 +2,15 @@
 use Rattle.std.specs.Prelude.{ℕ, ◌≡◌, ◌≤◌, ◌<◌, ◌*◌, ◌⊎◌, Option, List, length}
 use Rattle.std.specs.Io.KnownBytes.{Consumes, IsAtEnd}
 use Rattle.platform_answers.specs.declared.counted.ReadCounts.{ReadCounts}
-use Rattle.platform_answers.specs.declared.reading.Gathered.{Gathered}
-use Rattle.platform_answers.specs.declared.reading.Gathered.TheVariants.{Whole, TooLong}
+use Rattle.platform_answers.specs.declared.reading.ReadOutcome.{ReadOutcome}
+use Rattle.platform_answers.specs.declared.reading.ReadOutcome.TheVariants.{Whole, TooLong}
 
 -- the input has more bytes than it may have
 abbrev pub IsTooLong : List ℕ → Type 0
 IsTooLong bs = 1_048_576 < length bs
 
 -- the whole input is the bytes that were read, and an input that is too long is known by one byte too many
-abbrev pub IsGathered : Gathered → List ℕ → Type 0
+abbrev pub IsGathered : ReadOutcome → List ℕ → Type 0
 IsGathered (Whole v) bs = (v.items ≡ bs) × (length bs ≤ 1_048_576)
 IsGathered TooLong bs = IsTooLong bs
 

@@ -16,7 +16,7 @@ ghost use Rattle.platform_answers.specs.Answering.{IsAnswerToLines, IsRefusedAs,
 use crate::Outcome;
 use crate::evaluation::is_true;
 use crate::printing::push_condition;
-use crate::reading::{Gathered, MOST_BYTES};
+use crate::reading::{MOST_BYTES, ReadOutcome};
 use cargo_platform::{Cfg, FactIndex, FactsError, ParseError, Platform, ReadError, read_facts};
 use std::alloc::{AllocError, Global};
 
@@ -238,11 +238,11 @@ fn answer_bytes(alloc: Global, bytes: &[u8]) -> Result<Answer, AllocError>
 }
 
 /// Returns the answer to the input that was read. Fails if an allocation fails.
-pub fn answer_to(alloc: Global, gathered: Gathered) -> Result<Answer, AllocError>
+pub fn answer_to(alloc: Global, gathered: ReadOutcome) -> Result<Answer, AllocError>
     ensures { IfOk result (λ a. (bs : List ℕ) → IsGathered gathered bs → IsAnswer bs (string_bytes a.text) a.outcome) }
 {
     match gathered {
-        Gathered::Whole(bytes) => answer_bytes(alloc, &bytes),
-        Gathered::TooLong => too_long(alloc),
+        ReadOutcome::Whole(bytes) => answer_bytes(alloc, &bytes),
+        ReadOutcome::TooLong => too_long(alloc),
     }
 }

@@ -91,7 +91,7 @@ pub fn run<R: Read, W: Write>(
     // After `Read` and `Memory` nothing was written.
     ensures memory_silent { IsErrOf result RunError.Memory → output.new ≡ output.old }
 {
-    let gathered = reading::gather(alloc, input)?;
+    let gathered = reading::read_input(alloc, input)?;
     let Ok(Answer { text, outcome }) = answering::answer_to(alloc, gathered) else {
         return Err(RunError::Memory);
     };

@@ -19,7 +19,7 @@ const PIECE: usize = 4096;
 
 /// The input that was read.
 #[derive(Drop)]
-pub enum Gathered {
+pub enum ReadOutcome {
     /// All bytes up to the end.
     Whole(Vec<u8>),
     /// More bytes than an input can have.
@@ -33,7 +33,10 @@ pub enum Gathered {
 ///
 /// Returns `RunError::Read` if a read failed otherwise, or if the maximum number of reads returned neither the end nor
 /// a byte too many. Returns `RunError::Memory` if there is no memory for the bytes.
-pub fn gather<R: Read>(alloc: Global, input: &mut counted::Input<R>) -> Result<Gathered, RunError>
+pub fn read_input<R: Read>(
+    alloc: Global,
+    input: &mut counted::Input<R>,
+) -> Result<ReadOutcome, RunError>
     requires { read_counts input.old ≡ no_reads }
     ensures brought { IfOk result (λ g. (bs : List ℕ) × IsGathered g bs
         × IsInput (R.remaining (reader_of input.old)) (R.remaining (reader_of input.new)) (read_counts input.new) bs) }
@@ -47,10 +50,10 @@ pub fn gather<R: Read>(alloc: Global, input: &mut counted::Input<R>) -> Result<G
     let mut piece = [0u8; PIECE];
     for _turn in 0..MOST_READS {
         match input.read(&mut piece) {
-            Ok(0) => return Ok(Gathered::Whole(bytes)),
+            Ok(0) => return Ok(ReadOutcome::Whole(bytes)),
             Ok(n) => {
                 if n > MOST_BYTES - bytes.len() {
-                    return Ok(Gathered::TooLong);
+                    return Ok(ReadOutcome::TooLong);
                 }
                 if bytes.extend_from_slice(&piece[..n]).is_err() {
                     return Err(RunError::Memory);

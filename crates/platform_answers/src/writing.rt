@@ -10,10 +10,10 @@ use std::io::Write;
 
 /// The error of an output that was not taken as a whole, or not flushed.
 #[derive(Clone, Copy, Debug, PartialEq, Eq)]
-pub struct Unwritten;
+pub struct WriteError;
 
 /// Writes until all is taken, with at most one write more than there are bytes. An interrupted write is repeated.
-fn hand_over<W: Write>(output: &mut counted::Output<W>, text: &[u8]) -> Result<(), Unwritten>
+fn hand_over<W: Write>(output: &mut counted::Output<W>, text: &[u8]) -> Result<(), WriteError>
     requires { write_counts output.old ≡ no_writes }
     ensures written { OnOk result
         (Appends (W.contents (writer_of output.old)) (W.contents (writer_of output.new)) text.now) }
@@ -30,11 +30,11 @@ fn hand_over<W: Write>(output: &mut counted::Output<W>, text: &[u8]) -> Result<(
             return Ok(());
         }
         match output.write(&text[taken..]) {
-            Ok(0) => return Err(Unwritten),
+            Ok(0) => return Err(WriteError),
             Ok(n) => taken += n,
             Err(e) => {
                 if !is_interrupted(&e) {
-                    return Err(Unwritten);
+                    return Err(WriteError);
                 }
             }
         }
@@ -42,16 +42,16 @@ fn hand_over<W: Write>(output: &mut counted::Output<W>, text: &[u8]) -> Result<(
     if taken == text.len() {
         return Ok(());
     }
-    Err(Unwritten)
+    Err(WriteError)
 }
 
 /// Writes all of the text, and flushes once.
 ///
 /// # Errors
 ///
-/// Returns `Unwritten` if a write failed other than by an interruption or took nothing, if one write more than the text
-/// has bytes did not take all of it, or if the flush failed.
-pub fn write_out<W: Write>(output: &mut counted::Output<W>, text: &[u8]) -> Result<(), Unwritten>
+/// Returns `WriteError` if a write failed other than by an interruption or took nothing, if one write more than the
+/// text has bytes did not take all of it, or if the flush failed.
+pub fn write_out<W: Write>(output: &mut counted::Output<W>, text: &[u8]) -> Result<(), WriteError>
     requires { write_counts output.old ≡ no_writes }
     ensures written { OnOk result
         (Appends (W.contents (writer_of output.old)) (W.contents (writer_of output.new)) text.now) }
@@ -64,7 +64,7 @@ pub fn write_out<W: Write>(output: &mut counted::Output<W>, text: &[u8]) -> Resu
 {
     hand_over(output, text)?;
     if output.flush().is_err() {
-        return Err(Unwritten);
+        return Err(WriteError);
     }
     Ok(())
 }

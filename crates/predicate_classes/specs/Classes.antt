@@ -18,9 +18,10 @@ use Rattle.known_targets.specs.Listed.{is_had}
 use Rattle.manifests.specs.Declarations.{DeclaredEntry, is_declared}
 use Rattle.predicate_classes.specs.declared.key_predicates.KeyPredicate.{KeyPredicate}
 use Rattle.predicate_classes.specs.declared.key_predicates.TheConstants.{OPEN}
-use Rattle.predicate_classes.specs.declared.rustc_names.TheConstants.{VALUED, FLAGGED, PLAIN}
-use Rattle.predicate_classes.specs.declared.rustc_names.TheConstants.{SHORTENED, OF_PROFILES, OTHER_WORDS}
-use Rattle.predicate_classes.specs.declared.rustc_names.TheConstants.{UNSTABLE_NAMES, UNSTABLE_KEYS, PANICS}
+use Rattle.predicate_classes.specs.declared.rustc_names.TheConstants.{KEYS_WITH_VALUES, FLAG_DEPENDENT_KEYS}
+use Rattle.predicate_classes.specs.declared.rustc_names.TheConstants.{NAMES_WITHOUT_VALUE}
+use Rattle.predicate_classes.specs.declared.rustc_names.TheConstants.{KEYS_WITHOUT_PREFIX, OF_PROFILES, OTHER_WORDS}
+use Rattle.predicate_classes.specs.declared.rustc_names.TheConstants.{UNSTABLE_NAMES, UNSTABLE_KEYS, PANIC_VALUES}
 use Rattle.predicate_classes.specs.declared.target_features.TheConstants.{TARGET_FEATURES}
 use Rattle.predicate_classes.specs.declared.classes.Category.{Category}
 use Rattle.predicate_classes.specs.declared.classes.Category.TheVariants as category
@@ -30,13 +31,13 @@ use Rattle.predicate_classes.specs.declared.classes.Class.TheVariants as class
 
 -- rustc's keys and names
 abbrev pub valued : List (List ℕ)
-valued = map (λ w. w.now) VALUED
+valued = map (λ w. w.now) KEYS_WITH_VALUES
 
 abbrev pub flagged : List (List ℕ)
-flagged = map (λ w. w.now) FLAGGED
+flagged = map (λ w. w.now) FLAG_DEPENDENT_KEYS
 
 abbrev pub plain_names : List (List ℕ)
-plain_names = map (λ w. w.now) PLAIN
+plain_names = map (λ w. w.now) NAMES_WITHOUT_VALUE
 
 -- the names, and the keys of pairs, that only unstable features of rustc set
 abbrev pub unstable_names : List (List ℕ)
@@ -54,7 +55,7 @@ target_features = map (λ w. w.now) TARGET_FEATURES
 
 -- the values of `panic`
 abbrev pub panics : List (List ℕ)
-panics = map (λ w. w.now) PANICS
+panics = map (λ w. w.now) PANIC_VALUES
 
 -- some known target has the text, in lower case, as a value of the key
 abbrev pub has_as_value : List ℕ → List ℕ → Bool
@@ -91,7 +92,7 @@ is_near name = nat_le SHORTEST (length name) && (is_near_one name || is_like_key
 
 -- a key without `target_`, a setting of a profile, or another word for a fact of rustc's
 abbrev pub is_word_for_rustcs : List ℕ → Bool
-is_word_for_rustcs name = is_named name (map (λ w. w.now) SHORTENED)
+is_word_for_rustcs name = is_named name (map (λ w. w.now) KEYS_WITHOUT_PREFIX)
     || (is_named name (map (λ w. w.now) OF_PROFILES) || is_named name (map (λ w. w.now) OTHER_WORDS))
 
 -- the same whatever the case of ASCII letters

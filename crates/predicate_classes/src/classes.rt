@@ -16,8 +16,8 @@ ghost use Rattle.predicate_classes.specs.Classes.{is_word_for_rustcs, starts_lik
 ghost use Rattle.predicate_classes.specs.Classes.{IsUnknownTarget};
 
 use crate::rustc_names::{
-    FLAGGED, OF_PROFILES, OTHER_WORDS, PANICS, PLAIN, SHORTENED, UNSTABLE_KEYS, UNSTABLE_NAMES,
-    VALUED, is_target_feature, pair,
+    FLAG_DEPENDENT_KEYS, KEYS_WITH_VALUES, KEYS_WITHOUT_PREFIX, NAMES_WITHOUT_VALUE, OF_PROFILES,
+    OTHER_WORDS, PANIC_VALUES, UNSTABLE_KEYS, UNSTABLE_NAMES, is_target_feature, pair,
 };
 use cargo_platform::{Cfg, Platform};
 use known_targets::{KnownTarget, having};
@@ -224,13 +224,13 @@ fn near(
 fn near_one(alloc: Global, text: &str) -> Result<Option<&'static str>, AllocError>
     ensures { IfOk result (λ word. is_some word ≡ is_near_one text.now) }
 {
-    if let Some(word) = near(alloc, text, &PLAIN)? {
+    if let Some(word) = near(alloc, text, &NAMES_WITHOUT_VALUE)? {
         return Ok(Some(word));
     }
-    if let Some(word) = near(alloc, text, &FLAGGED)? {
+    if let Some(word) = near(alloc, text, &FLAG_DEPENDENT_KEYS)? {
         return Ok(Some(word));
     }
-    near(alloc, text, &VALUED)
+    near(alloc, text, &KEYS_WITH_VALUES)
 }
 
 /// Returns the class of a name or key in lower case that people take for one of rustc's, whether or not one is similar
@@ -239,7 +239,7 @@ fn taken_for_rustcs(name: &str) -> Option<Class>
     ensures is_one { is_some result ≡ is_word_for_rustcs name.now }
     ensures mistaken { IfSome result (λ s. category_in s ≡ Category.Mistaken) }
 {
-    if is_among(name, &SHORTENED) {
+    if is_among(name, &KEYS_WITHOUT_PREFIX) {
         return Some(Class::Shortened);
     }
     if is_among(name, &OF_PROFILES) {
@@ -291,16 +291,16 @@ fn class_of_name(alloc: Global, name: &str) -> Result<Class, AllocError>
     if is_unsupported(name) {
         return Ok(Class::Unsupported);
     }
-    if is_among(name, &PLAIN) {
+    if is_among(name, &NAMES_WITHOUT_VALUE) {
         return Ok(Class::Rustc);
     }
     if is_among(name, &UNSTABLE_NAMES) {
         return Ok(Class::Unstable);
     }
-    if is_among(name, &VALUED) {
+    if is_among(name, &KEYS_WITH_VALUES) {
         return Ok(Class::NoValue);
     }
-    if is_among(name, &FLAGGED) {
+    if is_among(name, &FLAG_DEPENDENT_KEYS) {
         return Ok(Class::Custom);
     }
     match key_of_value(alloc, name, &NAMED_BY_VALUE)? {
@@ -324,7 +324,7 @@ fn class_of_feature(value: &str) -> Class
 fn class_of_panic(value: &str) -> Class
     ensures { category_in result ≡ category_of_panic value.now }
 {
-    if is_among(value, &PANICS) {
+    if is_among(value, &PANIC_VALUES) {
         Class::Rustc
     } else {
         Class::OtherValue
@@ -341,16 +341,16 @@ fn class_of_pair(alloc: Global, c: &Cfg, key: &str, value: &str) -> Result<Class
     if key == "target_feature" {
         return Ok(class_of_feature(value));
     }
-    if is_among(key, &FLAGGED) {
+    if is_among(key, &FLAG_DEPENDENT_KEYS) {
         return Ok(class_of_panic(value));
     }
-    if is_among(key, &VALUED) {
+    if is_among(key, &KEYS_WITH_VALUES) {
         if is_had(c) {
             return Ok(Class::Rustc);
         }
         return Ok(Class::OtherValue);
     }
-    if is_among(key, &PLAIN) {
+    if is_among(key, &NAMES_WITHOUT_VALUE) {
         return Ok(Class::WithValue);
     }
     if key == "target" {

@@ -13,7 +13,7 @@ use partial_facts::names::is_among;
 use std::alloc::{AllocError, Global};
 
 /// The keys that rustc sets with a value, whatever the flags are.
-pub const VALUED: [&str; 9] = [
+pub const KEYS_WITH_VALUES: [&str; 9] = [
     "target_abi",
     "target_arch",
     "target_endian",
@@ -26,13 +26,13 @@ pub const VALUED: [&str; 9] = [
 ];
 
 /// The keys whose values depend on flags and profiles.
-pub const FLAGGED: [&str; 2] = ["panic", "target_feature"];
+pub const FLAG_DEPENDENT_KEYS: [&str; 2] = ["panic", "target_feature"];
 
 /// The values that flags give `panic`.
-pub const PANICS: [&str; 3] = ["abort", "immediate-abort", "unwind"];
+pub const PANIC_VALUES: [&str; 3] = ["abort", "immediate-abort", "unwind"];
 
 /// The names that rustc sets without a value.
-pub const PLAIN: [&str; 3] = ["debug_assertions", "unix", "windows"];
+pub const NAMES_WITHOUT_VALUE: [&str; 3] = ["debug_assertions", "unix", "windows"];
 
 /// The names that rustc prints, or knows without printing them, only with unstable features.
 pub const UNSTABLE_NAMES: [&str; 15] = [
@@ -63,7 +63,7 @@ pub const UNSTABLE_KEYS: [&str; 5] = [
 ];
 
 /// rustc's keys without `target_`, as people write them, and `platform`.
-pub const SHORTENED: [&str; 10] = [
+pub const KEYS_WITHOUT_PREFIX: [&str; 10] = [
     "abi",
     "arch",
     "endian",

@@ -2,10 +2,10 @@
 //! on exactly some of them.
 #![tactic(auto)]
 
-mod conditions;
+mod condition_search;
 mod groups;
 mod selected;
 
-pub use conditions::Finder;
+pub use condition_search::ConditionSearch;
 pub use groups::{Groups, TableSelection, grouped};
 pub use selected::Selection;

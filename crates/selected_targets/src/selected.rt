@@ -4,7 +4,7 @@
 
 use crate::groups::{Groups, is_at};
 use cargo_platform::{Cfg, CfgExpr, Platform};
-use known_targets::conditions::Simple;
+use known_targets::conditions::SingleFactConditions;
 use known_targets::{KnownTarget, TargetSet, having};
 use std::alloc::{AllocError, Global};
 use target_tables::TargetRow;
@@ -224,7 +224,7 @@ fn facts_of_file(alloc: Global, selected: &Selected<'_>) -> Result<Vec<Fact>, Al
 /// Returns the candidate facts of known targets, in the order in which they are tried.
 fn known_facts(alloc: Global, selected: &Selected<'_>) -> Result<Vec<Fact>, AllocError> {
     let mut facts = Vec::new(alloc);
-    for known in Simple::new(alloc)?.facts() {
+    for known in SingleFactConditions::new(alloc)?.facts() {
         let fact = known.fact.clone(alloc)?;
         let at = selected.members(alloc, known.targets)?;
         facts.push(Fact { fact, at })?;

@@ -20,7 +20,7 @@ pub fn first_line(text: &str) -> (&str, &str)
 }
 
 /// Returns the text after the empty lines at its beginning, and the number of these lines.
-pub fn behind_empty(text: &str) -> (&str, usize)
+pub fn skip_blank_lines(text: &str) -> (&str, usize)
     ensures lines { IsBehindEmpty (lines_of text.now) result.1 (lines_of result.0.now) }
     ensures length { result.1 + length result.0.now ≤ length text.now }
     ensures utf8 { IsUtf8 result.0.now }
@@ -36,7 +36,7 @@ pub fn behind_empty(text: &str) -> (&str, usize)
 }
 
 /// Returns the lines at the beginning of a text, up to an empty one, each with its end, and the text after them.
-pub fn filled_front(alloc: Global, text: &str) -> Result<(String, &str), AllocError>
+pub fn take_block(alloc: Global, text: &str) -> Result<(String, &str), AllocError>
     ensures lines { IfOk result
         (λ r. IsFilledFront (lines_of text.now) (string_bytes r.0) (lines_of r.1.now)) }
     ensures length { IfOk result (λ r. length (lines_of (string_bytes r.0)) + length r.1.now ≤ length text.now) }

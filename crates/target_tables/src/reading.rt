@@ -8,7 +8,7 @@ ghost use Rattle.cargo_platform.specs.Trees.{value_of};
 ghost use Rattle.cargo_platform.specs.FactLines.{SpellFacts};
 ghost use Rattle.target_tables.specs.Refusals.{IfLine, IfTwice, IsNoFact, IsRepeat};
 
-use crate::blocks::{behind_empty, filled_front, first_line};
+use crate::blocks::{first_line, skip_blank_lines, take_block};
 use crate::error::TableError;
 use crate::table::{TargetRow, TargetTable, place_of};
 use cargo_platform::{Cfg, FactsError, read_facts};
@@ -47,7 +47,7 @@ fn read_row<'a>(
     ensures refused { IfLine result (λ n e. IsNoFactBehind (lines_of text.now) before n e) }
     ensures not_twice { IfTwice result (λ n. ⊥) }
 {
-    let (front, behind) = filled_front(alloc, text)?;
+    let (front, behind) = take_block(alloc, text)?;
     let facts = read_block(alloc, before, front.as_str())?;
     let name = String::from_str(alloc, name)?;
     Ok((TargetRow { name, facts }, behind))
@@ -71,7 +71,7 @@ pub fn read_table(alloc: Global, text: &str) -> Result<TargetTable, TableError>
 {
     let _size = text.len();
     let mut rows = Vec::new(alloc);
-    let (mut rest, mut passed) = behind_empty(text);
+    let (mut rest, mut passed) = skip_blank_lines(text);
     'blocks: while !rest.is_empty() {
         let (name, facts) = first_line(rest);
         passed += 1;
@@ -83,7 +83,7 @@ pub fn read_table(alloc: Global, text: &str) -> Result<TargetTable, TableError>
         if rows.push(row).is_err() {
             return Err(TableError::Memory(AllocError));
         }
-        let (next, empty) = behind_empty(behind);
+        let (next, empty) = skip_blank_lines(behind);
         passed += empty;
         rest = next;
     }

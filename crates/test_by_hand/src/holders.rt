@@ -94,7 +94,7 @@ fn over<F: Facts>(rt: &impl Abort, e: &CfgExpr, holder: &F) -> bool {
 }
 
 /// Expressions, each with whether it is true with both flags, and with `unix` alone.
-const FLAGGED: &[(&str, bool, bool)] = &[
+const FLAG_DEPENDENT_KEYS: &[(&str, bool, bool)] = &[
     ("unix", true, true),
     ("r#unix", true, true),
     ("unix = \"\"", false, false),
@@ -112,7 +112,7 @@ const FLAGGED: &[(&str, bool, bool)] = &[
 
 #[test]
 fn flags_are_asked(rt: HostRuntime) {
-    for (text, with_both, with_unix) in FLAGGED {
+    for (text, with_both, with_unix) in FLAG_DEPENDENT_KEYS {
         let e = read(&rt, rt.alloc(), text);
         for (linux, wanted) in [(true, *with_both), (false, *with_unix)] {
             let flags = Flags { unix: true, linux };
@@ -125,7 +125,7 @@ fn flags_are_asked(rt: HostRuntime) {
 fn two_lists_are_asked(rt: HostRuntime) {
     let target = facts_of(&rt, rt.alloc(), "r#unix");
     let build = facts_of(&rt, rt.alloc(), "target_os=|linux|");
-    for (text, with_both, with_unix) in FLAGGED {
+    for (text, with_both, with_unix) in FLAG_DEPENDENT_KEYS {
         let e = read(&rt, rt.alloc(), text);
         for (first, second, wanted) in [
             (target.as_slice(), build.as_slice(), *with_both),

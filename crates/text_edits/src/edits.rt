@@ -16,7 +16,7 @@ pub struct Edit {
 
 /// A text after edits.
 #[derive(Drop)]
-pub struct Applied {
+pub struct EditResult {
     pub text: String,
     /// The number of edits that were left out.
     pub left: usize,
@@ -35,7 +35,7 @@ pub(crate) fn fits(text: &str, at: usize, edit: &Edit) -> bool
 
 /// Applies edits to a text, in their order. An edit is left out if it does not fit the text behind the last one that
 /// was applied. Fails if an allocation fails.
-pub fn apply(alloc: Global, text: &str, edits: &[Edit]) -> Result<Applied, AllocError>
+pub fn apply(alloc: Global, text: &str, edits: &[Edit]) -> Result<EditResult, AllocError>
     ensures { IfOk result (λ it. Edited text.now 0 edits.now (string_bytes it.text) it.left) }
 {
     let mut edited = String::new(alloc);
@@ -51,5 +51,5 @@ pub fn apply(alloc: Global, text: &str, edits: &[Edit]) -> Result<Applied, Alloc
         }
     }
     edited.push_str(&text[at..])?;
-    Ok(Applied { text: edited, left })
+    Ok(EditResult { text: edited, left })
 }

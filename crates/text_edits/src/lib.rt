@@ -7,4 +7,4 @@ mod hunks;
 pub mod laws;
 
 pub use diffs::unified_diff;
-pub use edits::{Applied, Edit, apply};
+pub use edits::{Edit, EditResult, apply};

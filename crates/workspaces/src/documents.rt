@@ -81,7 +81,7 @@ fn path_of_root(manifest: &Table) -> Option<&str> {
 struct ReadFile {
     /// None if the file can't be used, or if the document has been taken.
     document: Option<Document>,
-    is_matched: bool,
+    is_taken: bool,
     /// The number of times that the document is still to be taken, as far as that is known.
     uses: usize,
     root: RootPlace,
@@ -94,7 +94,7 @@ impl ReadFile {
     fn none() -> ReadFile {
         ReadFile {
             document: None,
-            is_matched: false,
+            is_taken: false,
             uses: 0,
             root: RootPlace::Unsaid,
             given: None,
@@ -110,7 +110,7 @@ impl ReadFile {
         let root = RootPlace::of(alloc, &document)?;
         Ok(ReadFile {
             document: Some(document),
-            is_matched: false,
+            is_taken: false,
             uses: 0,
             root,
             given: None,
@@ -141,7 +141,7 @@ impl ReadFile {
         }
     }
 
-    /// Matches the document out, or a copy where the document stays.
+    /// Takes the document out of the cache, or a copy of it if it is still needed.
     fn take(&mut self) -> Result<Option<Document>, AllocError> {
         self.uses = self.uses.saturating_sub(1);
         if self.stays() {
@@ -151,7 +151,7 @@ impl ReadFile {
             };
         }
         let document = self.document.take();
-        self.is_matched = document.is_some();
+        self.is_taken = document.is_some();
         Ok(document)
     }
 }
@@ -191,7 +191,7 @@ impl Documents {
     ) -> Result<String, AllocError> {
         let path = real_path(rt, file)?;
         let is_read = match self.files.get(path.as_str()) {
-            Some(read) => !needs_document || !read.is_matched,
+            Some(read) => !needs_document || !read.is_taken,
             None => false,
         };
         if !is_read {
@@ -281,7 +281,7 @@ impl Documents {
         Ok(())
     }
 
-    /// Matches the manifest at a path out, if it has been read and can be used. If it is still needed, it is copied.
+    /// Takes the manifest at a path out of the cache, if it has been read and can be used. If it is still needed, it is copied.
     /// Standard input has not been read.
     ///
     /// Fails only if an allocation fails.

@@ -116,7 +116,7 @@ fn overrides_defaults(own: &Table, shared: &Value) -> bool {
 }
 
 /// Returns why Cargo rejects a dependency with `workspace = true` and these other fields, which have the types that it
-/// expects, and `None` if it matches it. `shared` is the table `workspace.dependencies` of the root.
+/// expects, and `None` if the types are those. `shared` is the table `workspace.dependencies` of the root.
 pub fn uninheritable(
     name: &str,
     own: &Table,
@@ -188,7 +188,7 @@ fn joined(alloc: Global, own: &Table, shared: &Value) -> Result<Value, AllocErro
     Ok(Value::Table(table))
 }
 
-/// Returns the dependency that a package inherits under a name, if it inherits one that Cargo matches.
+/// Returns the dependency that a package inherits under a name, if it inherits one that Cargo accepts.
 fn inherited(
     alloc: Global,
     name: &str,

@@ -41,8 +41,8 @@ impl Rules {
     pub fn have(&self, alloc: Global, path: &[Vec<char>]) -> Result<bool, AllocError>
         ensures { IfOk result (λ b. IsTrue b ↔ IsMember self.now path.now) }
     {
-        let is_matched = some_matches(alloc, &self.members, path)?;
+        let is_taken = some_matches(alloc, &self.members, path)?;
         let is_excluded = self.exclude(alloc, path)?;
-        Ok(holds_without(is_matched, is_excluded))
+        Ok(holds_without(is_taken, is_excluded))
     }
 }

@@ -10,7 +10,7 @@ ghost use Rattle.exact_answers.specs.Goals.{goals_met, HasOneOpenValue, pairs_of
 ghost use Rattle.exact_answers.specs.Inside.Making.{says};
 
 use crate::goal_diagrams::making::{Goal, Query, goals_made, single_values};
-use crate::goal_diagrams::table::{Choice, Stop, Table};
+use crate::goal_diagrams::table::{Choice, DiagramError, Table};
 use cargo_platform::Cfg;
 use partial_facts::Knowledge;
 use std::alloc::{AllocError, Global};
@@ -29,12 +29,12 @@ pub enum Outcome {
 }
 
 /// Returns the result if no diagram is made.
-fn unmade(stop: Stop) -> Result<Outcome, AllocError>
+fn unmade(stop: DiagramError) -> Result<Outcome, AllocError>
     ensures { IfOk result (λ r. r ≡ Outcome.TooLarge) }
 {
     match stop {
-        Stop::TooLarge => Ok(Outcome::TooLarge),
-        Stop::Memory(refused) => Err(refused),
+        DiagramError::TooLarge => Ok(Outcome::TooLarge),
+        DiagramError::Memory(refused) => Err(refused),
     }
 }
 
@@ -44,7 +44,7 @@ fn all_made<K: Knowledge>(
     table: &mut Table,
     goals: &[Goal<'_>],
     single: &[&str],
-) -> Result<usize, Stop>
+) -> Result<usize, DiagramError>
     requires { IsTable (nodes_of table.old) table.old.joined.items }
     ensures made { IfOk result (IsMade table.old table.new) }
     ensures means { IfOk result (λ place. (s : FactSet) → IsAsTold (K.told query.now.known.now) s

@@ -13,7 +13,7 @@ ghost use Rattle.exact_answers.specs.Goals.{IsAsTold, StandsAt};
 ghost use Rattle.exact_answers.specs.Inside.Making.{says, AreTwoValues, AreApart};
 ghost use Rattle.exact_answers.specs.Inside.Making.{each_wanted, some_wanted, group_wanted};
 
-use crate::goal_diagrams::table::{FALSE, Stop, TRUE, Table, literal};
+use crate::goal_diagrams::table::{DiagramError, FALSE, TRUE, Table, literal};
 use cargo_platform::{Cfg, CfgExpr, Ident};
 use partial_facts::Knowledge;
 use partial_facts::names::is_named;
@@ -126,7 +126,7 @@ fn value_made<K: Knowledge>(
     table: &mut Table,
     c: &Cfg,
     wanted: bool,
-) -> Result<usize, Stop>
+) -> Result<usize, DiagramError>
     requires { IsTable (nodes_of table.old) table.old.joined.items }
     ensures made { IfOk result (IsMade table.old table.new) }
     ensures means { IfOk result (λ place. (s : FactSet) → IsAsTold (K.told query.now.known.now) s
@@ -137,7 +137,7 @@ fn value_made<K: Knowledge>(
         Some(truth) => Ok(literal(as_wanted(truth, wanted))),
         None => match number_of(query.pairs, c) {
             Some(number) => table.pair(number, wanted),
-            None => Err(Stop::TooLarge),
+            None => Err(DiagramError::TooLarge),
         },
     }
 }
@@ -149,7 +149,7 @@ fn value_joined<K: Knowledge>(
     among: usize,
     c: &Cfg,
     wanted: bool,
-) -> Result<usize, Stop>
+) -> Result<usize, DiagramError>
     requires table { IsTable (nodes_of table.old) table.old.joined.items }
     requires among { among < places (nodes_of table.old) }
     ensures made { IfOk result (IsMade table.old table.new) }
@@ -171,7 +171,7 @@ fn made<K: Knowledge>(
     e: &CfgExpr,
     wanted: bool,
     levels: usize,
-) -> Result<usize, Stop>
+) -> Result<usize, DiagramError>
     requires table { IsTable (nodes_of table.old) table.old.joined.items }
     requires among { among < places (nodes_of table.old) }
     ensures made { IfOk result (IsMade table.old table.new) }
@@ -181,7 +181,7 @@ fn made<K: Knowledge>(
         && true_as_wanted wanted (truth s (tree_of e.now)))) }
 {
     if levels == 0 {
-        return Err(Stop::TooLarge);
+        return Err(DiagramError::TooLarge);
     }
     match e {
         CfgExpr::Not(inner) => made(query, table, among, inner, !wanted, levels - 1),
@@ -208,7 +208,7 @@ fn group_made<K: Knowledge>(
     each: bool,
     wanted: bool,
     levels: usize,
-) -> Result<usize, Stop>
+) -> Result<usize, DiagramError>
     requires table { IsTable (nodes_of table.old) table.old.joined.items }
     requires among { among < places (nodes_of table.old) }
     ensures made { IfOk result (IsMade table.old table.new) }
@@ -234,7 +234,7 @@ fn each_made<K: Knowledge>(
     members: &[CfgExpr],
     wanted: bool,
     levels: usize,
-) -> Result<usize, Stop>
+) -> Result<usize, DiagramError>
     requires table { IsTable (nodes_of table.old) table.old.joined.items }
     requires among { among < places (nodes_of table.old) }
     ensures made { IfOk result (IsMade table.old table.new) }
@@ -261,7 +261,7 @@ fn some_made<K: Knowledge>(
     members: &[CfgExpr],
     wanted: bool,
     levels: usize,
-) -> Result<usize, Stop>
+) -> Result<usize, DiagramError>
     requires { IsTable (nodes_of table.old) table.old.joined.items }
     ensures made { IfOk result (IsMade table.old table.new) }
     ensures means { IfOk result (λ place. (s : FactSet) → IsAsTold (K.told query.now.known.now) s
@@ -285,7 +285,7 @@ pub fn goals_made<K: Knowledge>(
     table: &mut Table,
     among: usize,
     goals: &[Goal<'_>],
-) -> Result<usize, Stop>
+) -> Result<usize, DiagramError>
     requires table { IsTable (nodes_of table.old) table.old.joined.items }
     requires among { among < places (nodes_of table.old) }
     ensures made { IfOk result (IsMade table.old table.new) }
@@ -346,7 +346,7 @@ fn without_other<K: Knowledge>(
     single: &[&str],
     number: usize,
     other: usize,
-) -> Result<usize, Stop>
+) -> Result<usize, DiagramError>
     requires table { IsTable (nodes_of table.old) table.old.joined.items }
     requires among { among < places (nodes_of table.old) }
     requires number { number < length query.now.pairs.now }
@@ -373,7 +373,7 @@ fn no_later_value<K: Knowledge>(
     table: &mut Table,
     single: &[&str],
     number: usize,
-) -> Result<usize, Stop>
+) -> Result<usize, DiagramError>
     requires table { IsTable (nodes_of table.old) table.old.joined.items }
     requires number { number < length query.now.pairs.now }
     ensures made { IfOk result (IsMade table.old table.new) }
@@ -398,7 +398,7 @@ fn one_value<K: Knowledge>(
     table: &mut Table,
     single: &[&str],
     number: usize,
-) -> Result<usize, Stop>
+) -> Result<usize, DiagramError>
     requires table { IsTable (nodes_of table.old) table.old.joined.items }
     requires number { number < length query.now.pairs.now }
     ensures made { IfOk result (IsMade table.old table.new) }
@@ -416,7 +416,7 @@ pub fn single_values<K: Knowledge>(
     query: &Query<'_, '_, K>,
     table: &mut Table,
     single: &[&str],
-) -> Result<usize, Stop>
+) -> Result<usize, DiagramError>
     requires { IsTable (nodes_of table.old) table.old.joined.items }
     ensures made { IfOk result (IsMade table.old table.new) }
     ensures means { IfOk result (λ place. (s : FactSet)

@@ -9,15 +9,15 @@ use std::alloc::{AllocError, Global};
 
 /// The reason why no diagram is made.
 #[derive(Drop)]
-pub enum Stop {
+pub enum DiagramError {
     /// The diagram would be too large.
     TooLarge,
     Memory(AllocError),
 }
 
-impl From<AllocError> for Stop {
-    fn from(refused: AllocError) -> Stop {
-        Stop::Memory(refused)
+impl From<AllocError> for DiagramError {
+    fn from(refused: AllocError) -> DiagramError {
+        DiagramError::Memory(refused)
     }
 }
 
@@ -33,7 +33,7 @@ pub struct Node {
 
 /// Two places that were joined, with the place of the result.
 #[derive(Clone, Copy)]
-pub struct Joined {
+pub struct JoinEntry {
     pub each: bool,
     pub one: usize,
     pub other: usize,
@@ -49,7 +49,7 @@ pub struct Choice {
 
 /// Two places, split by a pair that one of them tests first.
 #[derive(Clone, Copy)]
-pub struct Halves {
+pub struct Cofactors {
     pub number: usize,
     pub one_without: usize,
     pub other_without: usize,
@@ -71,7 +71,7 @@ pub struct Table {
     /// By a hint, the last node with that hint, or 0.
     pub lasts: Vec<usize>,
     /// By a hint, the last places that were joined with that hint.
-    pub joined: Vec<Joined>,
+    pub joined: Vec<JoinEntry>,
     pub most_nodes: usize,
 }
 
@@ -90,12 +90,12 @@ fn zeros(alloc: Global, count: usize) -> Result<Vec<usize>, AllocError> {
     Ok(all)
 }
 
-fn nothing_joined(alloc: Global, count: usize) -> Result<Vec<Joined>, AllocError>
+fn nothing_joined(alloc: Global, count: usize) -> Result<Vec<JoinEntry>, AllocError>
     ensures { IfOk result (λ all. All (IsJoin []) all.items) }
 {
     let mut all = Vec::with_capacity(alloc, count)?;
     'entries: for _ in 0..count {
-        all.push(Joined {
+        all.push(JoinEntry {
             each: true,
             one: FALSE,
             other: FALSE,
@@ -131,7 +131,7 @@ fn chosen(node: Node, holds: bool) -> usize
 }
 
 /// Returns whether these places were joined.
-fn is_join(joined: Joined, each: bool, one: usize, other: usize) -> bool
+fn is_join(joined: JoinEntry, each: bool, one: usize, other: usize) -> bool
     ensures { result ≡ true → (joined.each ≡ each) × (joined.one ≡ one) × (joined.other ≡ other) }
 {
     joined.each == each && joined.one == one && joined.other == other
@@ -202,7 +202,12 @@ impl Table {
 
     /// Returns the place of a node that tests a pair, which is added unless it exists. If both places are the same,
     /// there is no node, and it is that place.
-    pub fn node(&mut self, number: usize, without: usize, with: usize) -> Result<usize, Stop>
+    pub fn node(
+        &mut self,
+        number: usize,
+        without: usize,
+        with: usize,
+    ) -> Result<usize, DiagramError>
         requires table { IsTable (nodes_of self.old) self.old.joined.items }
         requires without { without < places (nodes_of self.old) }
         requires with { with < places (nodes_of self.old) }
@@ -232,7 +237,7 @@ impl Table {
     }
 
     /// Adds a node that is the last one with this hint.
-    fn new_node(&mut self, at: usize, node: Node) -> Result<usize, Stop>
+    fn new_node(&mut self, at: usize, node: Node) -> Result<usize, DiagramError>
         requires table { IsTable (nodes_of self.old) self.old.joined.items }
         requires without { node.without < places (nodes_of self.old) }
         requires with { node.with < places (nodes_of self.old) }
@@ -243,7 +248,7 @@ impl Table {
             (value holds (nodes_of self.old) node.without)) }
     {
         if self.nodes.len() >= self.most_nodes {
-            return Err(Stop::TooLarge);
+            return Err(DiagramError::TooLarge);
         }
         let place = self.push(node)?;
         self.place_last(at, place);
@@ -270,21 +275,21 @@ impl Table {
     }
 
     /// Returns both places, split by the pair that comes first.
-    fn halves(&self, one: usize, other: usize) -> Result<Halves, Stop>
+    fn halves(&self, one: usize, other: usize) -> Result<Cofactors, DiagramError>
         requires { AreEarlier (nodes_of self.now) }
         ensures { IfOk result (AreHalves (nodes_of self.now) one other) }
     {
         match self.at(one) {
             Some(first) => match self.at(other) {
                 Some(second) => Ok(self.halves_of(one, first, other, second)),
-                None => Err(Stop::TooLarge),
+                None => Err(DiagramError::TooLarge),
             },
-            None => Err(Stop::TooLarge),
+            None => Err(DiagramError::TooLarge),
         }
     }
 
     /// Returns both places, which have these nodes, split by the pair that comes first.
-    fn halves_of(&self, one: usize, first: Node, other: usize, second: Node) -> Halves
+    fn halves_of(&self, one: usize, first: Node, other: usize, second: Node) -> Cofactors
         requires first { IsNodeAt (nodes_of self.now) one first }
         requires second { IsNodeAt (nodes_of self.now) other second }
         ensures { AreHalves (nodes_of self.now) one other result }
@@ -292,7 +297,7 @@ impl Table {
         let left = first.number;
         let right = second.number;
         if left < right {
-            Halves {
+            Cofactors {
                 number: left,
                 one_without: first.without,
                 other_without: other,
@@ -300,7 +305,7 @@ impl Table {
                 other_with: other,
             }
         } else if right < left {
-            Halves {
+            Cofactors {
                 number: right,
                 one_without: one,
                 other_without: second.without,
@@ -308,7 +313,7 @@ impl Table {
                 other_with: second.with,
             }
         } else {
-            Halves {
+            Cofactors {
                 number: left,
                 one_without: first.without,
                 other_without: second.without,
@@ -333,7 +338,7 @@ impl Table {
     }
 
     /// Records the place of two joined places.
-    fn remember(&mut self, at: usize, joined: Joined)
+    fn remember(&mut self, at: usize, joined: JoinEntry)
         requires table { IsTable (nodes_of self.old) self.old.joined.items }
         requires joined { IsJoin (nodes_of self.old) joined }
         ensures nodes { nodes_of self.new ≡ nodes_of self.old }
@@ -377,7 +382,7 @@ impl Table {
     }
 
     /// Returns the place of what is true where both places are true, or else where one of them is.
-    pub fn join(&mut self, each: bool, one: usize, other: usize) -> Result<usize, Stop>
+    pub fn join(&mut self, each: bool, one: usize, other: usize) -> Result<usize, DiagramError>
         requires table { IsTable (nodes_of self.old) self.old.joined.items }
         requires one { one < places (nodes_of self.old) }
         requires other { other < places (nodes_of self.old) }
@@ -395,7 +400,7 @@ impl Table {
         let place = self.node(halves.number, without, with)?;
         self.remember(
             at,
-            Joined {
+            JoinEntry {
                 each,
                 one,
                 other,
@@ -406,7 +411,7 @@ impl Table {
     }
 
     /// Returns the place of what is true where the pair with this number is a fact, or where it is not.
-    pub fn pair(&mut self, number: usize, wanted: bool) -> Result<usize, Stop>
+    pub fn pair(&mut self, number: usize, wanted: bool) -> Result<usize, DiagramError>
         requires { IsTable (nodes_of self.old) self.old.joined.items }
         ensures made { IfOk result (IsMade self.old self.new) }
         ensures means { IfOk result (λ place. (holds : ℕ → Bool) → value holds (nodes_of self.new) place

@@ -4,7 +4,7 @@ ghost use Rattle.std.specs.Prelude.{IfOk, IfSome};
 ghost use Rattle.cargo_platform.specs.Trees.{condition_of};
 ghost use Rattle.known_targets.specs.Exact.{HoldsExactly};
 
-use super::exact::exactly;
+use super::checked::exactly;
 use crate::{KnownFact, KnownTarget, TargetSet, all_facts};
 use cargo_platform::{Cfg, CfgExpr, Platform};
 use std::alloc::{AllocError, Global};
@@ -25,15 +25,15 @@ const TRIED: [&str; 10] = [
 
 /// The facts that conditions are made of, in the order in which they are tried.
 #[derive(Drop)]
-pub struct Simple {
+pub struct SingleFactConditions {
     facts: Vec<KnownFact>,
 }
 
-impl Simple {
+impl SingleFactConditions {
     /// Returns the facts of rustc's table under the names `unix` and `windows`, and then under the keys
     /// `target_family`, `target_os`, `target_env`, `target_vendor`, `target_arch`, `target_abi`, `target_endian` and
     /// `target_pointer_width`. Fails only if an allocation fails.
-    pub fn new(alloc: Global) -> Result<Simple, AllocError> {
+    pub fn new(alloc: Global) -> Result<SingleFactConditions, AllocError> {
         let known = all_facts(alloc)?;
         let mut facts = Vec::new(alloc);
         for key in &TRIED {
@@ -46,7 +46,7 @@ impl Simple {
                 }
             }
         }
-        Ok(Simple { facts })
+        Ok(SingleFactConditions { facts })
     }
 
     /// Returns these facts, each with its targets.

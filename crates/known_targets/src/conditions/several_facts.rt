@@ -4,7 +4,7 @@ ghost use Rattle.std.specs.Prelude.{IfOk, IfSome};
 ghost use Rattle.cargo_platform.specs.Trees.{condition_of};
 ghost use Rattle.known_targets.specs.Exact.{HoldsExactly};
 
-use super::exact::exactly;
+use super::checked::exactly;
 use crate::{COUNT, KnownFact, TargetSet};
 use cargo_platform::{CfgExpr, Platform};
 use std::alloc::{AllocError, Global};

@@ -16,15 +16,15 @@ use Rattle.target_tables.proofs.reading.read_table.Goals as goal
 pub blocks-2-init : goal.blocks-2-init
 blocks-2-init c =
     let text = c.args.text.now in
-    let empty = c.behind_empty-passed.result.1 in
-    let rest = c.behind_empty-passed.result.0.now in
+    let empty = c.skip_blank_lines-passed.result.1 in
+    let rest = c.skip_blank_lines-passed.result.0.now in
     record {
       read =
           subst (λ (xs : List TargetRow). AreRead (lines_of text) (map row_of xs) empty (lines_of rest))
           (sym c.new-rows.ensures.items)
-          (begun (lines_of text) empty (lines_of rest) c.behind_empty-passed.ensures.lines);
-      within = c.behind_empty-passed.ensures.length;
-      text = c.behind_empty-passed.ensures.utf8;
+          (begun (lines_of text) empty (lines_of rest) c.skip_blank_lines-passed.ensures.lines);
+      within = c.skip_blank_lines-passed.ensures.length;
+      text = c.skip_blank_lines-passed.ensures.utf8;
     }
 
 pub returns-then-is_some-clause-twice : goal.returns-then-is_some-clause-twice
@@ -71,8 +71,8 @@ blocks-2-preserved c =
     let row = c.in_ok-row.row in
     let name = c.first_line.result.0.now in
     let behind = lines_of c.first_line.result.1.now in
-    let next = c.behind_empty-empty.result.0.now in
-    let empty = c.behind_empty-empty.result.1 in
+    let next = c.skip_blank_lines-empty.result.0.now in
+    let empty = c.skip_blank_lines-empty.result.1 in
     let some : c.blocks-2.rest.now ≢ [] = search (rules, common_steps) in
     let value : c.deref.result.now ≡ c.blocks-2.rows.items = cc (c.deref.ensures.value) in
     let named = c.in_ok-row.ensures.name in
@@ -91,7 +91,7 @@ blocks-2-preserved c =
           subst (λ (xs : List Row). AreRead ls xs n (lines_of next)) (sym items)
           (grown ls rows c.blocks-2.passed (lines_of c.blocks-2.rest.now) (row_of row) behind
           (lines_of c.in_ok-row.behind.now) empty (lines_of next) n c.blocks-2.invariant.read is c.in_ok-row.ensures.row
-          c.behind_empty-empty.ensures.lines (subst (λ z. HasNoRow rows z) (sym named) none)
+          c.skip_blank_lines-empty.ensures.lines (subst (λ z. HasNoRow rows z) (sym named) none)
           (omega (arith, length-map c.in_ok-row.row.facts.items value_of)));
       within =
           omega (
@@ -100,9 +100,9 @@ blocks-2-preserved c =
             c.blocks-2.invariant.within,
             c.first_line.ensures.ended some,
             c.in_ok-row.ensures.length,
-            c.behind_empty-empty.ensures.length,
+            c.skip_blank_lines-empty.ensures.length,
           );
-      text = c.behind_empty-empty.ensures.utf8;
+      text = c.skip_blank_lines-empty.ensures.utf8;
     }
 
 pub returns-clause-rows : goal.returns-clause-rows

@@ -7,8 +7,8 @@ use Rattle.workspaces.proofs.member_rules.Rules.have.Goals as goal
 
 pub returns : goal.returns
 returns c =
-    without c.in_ok-is_matched.is_matched c.in_ok-is_excluded.is_excluded c.holds_without.result
-    (subst (λ (ps : List Pattern). IsTrue c.in_ok-is_matched.is_matched ↔ IsMatchedBySome ps c.args.path.now)
-    c.deref.ensures.value c.in_ok-is_matched.ensures)
+    without c.in_ok-is_taken.is_taken c.in_ok-is_excluded.is_excluded c.holds_without.result
+    (subst (λ (ps : List Pattern). IsTrue c.in_ok-is_taken.is_taken ↔ IsMatchedBySome ps c.args.path.now)
+    c.deref.ensures.value c.in_ok-is_taken.ensures)
     c.in_ok-is_excluded.ensures
     c.holds_without.ensures

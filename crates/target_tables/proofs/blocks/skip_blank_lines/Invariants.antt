@@ -4,7 +4,7 @@ use denote.Text.{Utf8}
 use denote.Shadow.{shadow}
 use Rattle.cargo_platform.specs.Lines.{lines_of}
 use Rattle.target_tables.specs.Rows.{AreEmpty}
-use Rattle.target_tables.proofs.blocks.behind_empty.Given as goal
+use Rattle.target_tables.proofs.blocks.skip_blank_lines.Given as goal
 
 abbrev pub invariant-lines : goal.invariant-lines
 invariant-lines l = record {

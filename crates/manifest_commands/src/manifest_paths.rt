@@ -10,17 +10,17 @@ use workspaces::{Documents, Found, ManifestSelection, find, put_text};
 
 /// The paths of the selected manifests, and the errors for those that can't be found.
 #[derive(Drop)]
-pub struct Named {
+pub struct SelectedManifests {
     pub paths: Vec<String>,
     pub unusable: Vec<Unusable>,
     /// A warning a line.
     pub warnings: String,
 }
 
-impl Named {
+impl SelectedManifests {
     /// Returns no manifest, but an error.
-    fn unusable(alloc: Global, unusable: Unusable) -> Result<Named, AllocError> {
-        Ok(Named {
+    fn unusable(alloc: Global, unusable: Unusable) -> Result<SelectedManifests, AllocError> {
+        Ok(SelectedManifests {
             paths: Vec::new(alloc),
             unusable: vec![in alloc; unusable]?,
             warnings: String::new(alloc),
@@ -80,11 +80,11 @@ fn selection_by(alloc: Global, matches: &ArgMatches<'_>) -> Result<ManifestSelec
 /// Finds the selected manifests: those that the arguments name, or else the one in the current folder or in the nearest
 /// folder above. The root of a workspace selects its members too. With `--stdin-filename`, standard input is the
 /// manifest at that path. The manifests that are read for this are kept in `documents`.
-pub fn named_manifests<R: Files + Input + Env + AllocGlobal + Clone + Drop>(
+pub fn find_manifests<R: Files + Input + Env + AllocGlobal + Clone + Drop>(
     rt: &R,
     documents: &mut Documents,
     matches: &ArgMatches<'_>,
-) -> Result<Named, AllocError> {
+) -> Result<SelectedManifests, AllocError> {
     let alloc = rt.alloc();
     let mut selection = selection_by(alloc, matches)?;
     if let Some(path) = matches.get_str("stdin-filename") {
@@ -94,7 +94,7 @@ pub fn named_manifests<R: Files + Input + Env + AllocGlobal + Clone + Drop>(
                 leave_out_input(&mut selection.manifests);
                 selection.paths.push(file)?;
             }
-            Err(error) => return Named::unusable(alloc, error.unusable(alloc)?),
+            Err(error) => return SelectedManifests::unusable(alloc, error.unusable(alloc)?),
         }
     }
     let Found {
@@ -102,7 +102,7 @@ pub fn named_manifests<R: Files + Input + Env + AllocGlobal + Clone + Drop>(
         unusable,
         warnings,
     } = find(rt, documents, &selection)?;
-    Ok(Named {
+    Ok(SelectedManifests {
         paths,
         unusable,
         warnings,

@@ -2,7 +2,7 @@
 
 use crate::cargo_refuses::{Rejected, rejected_by_cargo};
 use crate::deep::has_deep;
-use crate::dependency_rules::Inheriting;
+use crate::dependency_rules::WorkspaceRoot;
 use cargo_platform::shown_text;
 use input_limits::{INPUT, without_mark};
 use manifests::document;
@@ -85,7 +85,7 @@ pub fn manifest_at<R: Files + Input + AllocGlobal>(
 
 /// A manifest with what it inherits in its place.
 #[derive(Drop)]
-pub struct Taken {
+pub struct NormalizedManifest {
     pub manifest: Manifest,
     /// The first thing that Cargo rejects in it, beside its keys of `target`.
     pub rejected: Option<Rejected>,
@@ -100,7 +100,7 @@ fn inherit_from(
     if let Some(workspace) = workspace {
         put_inherited(alloc, &mut document.table, workspace)?;
     }
-    let inheriting = Inheriting {
+    let inheriting = WorkspaceRoot {
         is_known: true,
         workspace,
     };
@@ -117,7 +117,7 @@ fn inherit<R: Files + Env + AllocGlobal>(
 ) -> Result<Option<Rejected>, AllocError> {
     let alloc = rt.alloc();
     if path == INPUT || !inherits(&document.table) {
-        let inheriting = Inheriting {
+        let inheriting = WorkspaceRoot {
             is_known: false,
             workspace: None,
         };
@@ -134,14 +134,14 @@ fn inherit<R: Files + Env + AllocGlobal>(
 /// its place, and what Cargo rejects in it.
 ///
 /// Fails if it can't be used.
-pub fn taken_at<R: Files + Input + Env + AllocGlobal>(
+pub fn read_normalized<R: Files + Input + Env + AllocGlobal>(
     rt: &R,
     documents: &mut Documents,
     path: &str,
     with_lines: bool,
-) -> Result<Taken, ReadError> {
+) -> Result<NormalizedManifest, ReadError> {
     let mut document = document_at(rt, documents, path)?;
     let rejected = inherit(rt, documents, path, &mut document)?;
     let manifest = manifest_of(rt.alloc(), path, document, with_lines)?;
-    Ok(Taken { manifest, rejected })
+    Ok(NormalizedManifest { manifest, rejected })
 }

@@ -4,7 +4,7 @@ use Rattle.std.proofs.lemmas.Str.Pattern.{strip_prefix_char}
 use Rattle.cargo_platform.specs.Lines.{lines_of}
 use Rattle.cargo_platform.proofs.SomeCut.{ascii_sides}
 use Rattle.target_tables.proofs.Fronts.{all_append, no_empty_first}
-use Rattle.target_tables.proofs.blocks.behind_empty.Goals as goal
+use Rattle.target_tables.proofs.blocks.skip_blank_lines.Goals as goal
 
 pub lines-preserved : goal.lines-preserved
 lines-preserved c =

@@ -2,7 +2,7 @@
 use Rattle.std.proofs.Common.{◌≡◌, ◌≤◌, ◌*◌, length}
 use Rattle.std.specs.Io.KnownBytes.{Consumes}
 use Rattle.platform_answers.specs.Counts.{read_counts, reader_of}
-use Rattle.platform_answers.proofs.reading.gather.Given as goal
+use Rattle.platform_answers.proofs.reading.read_input.Given as goal
 
 abbrev pub invariant-loop-turn : goal.invariant-loop-turn
 invariant-loop-turn g l = record {

@@ -1,7 +1,7 @@
 use Rattle.std.proofs.Common.{◌≡◌, ◌≤◌, length, ◌+◌, ◌++◌, take, rules, arith, length-append, length-take, ap, ◌∙◌}
 use Rattle.std.proofs.lemmas.Grind.{common_steps}
 use Rattle.std.proofs.KnownBytes.{Consumes-trans, Consumes-kept}
-use Rattle.platform_answers.proofs.reading.gather.Goals as goal
+use Rattle.platform_answers.proofs.reading.read_input.Goals as goal
 
 pub returns-then-n-len-clause-brought : goal.returns-then-n-len-clause-brought
 returns-then-n-len-clause-brought g c =

@@ -4,15 +4,15 @@ use crate::selected::{
     Fact, Selected, Selection, covering as covering_of, simple_condition, tried_facts,
 };
 use cargo_platform::{Cfg, Platform};
-use known_targets::conditions::{Simple, covering};
+use known_targets::conditions::{SingleFactConditions, covering};
 use known_targets::{KnownFact, KnownTarget, TargetSet, having};
 use std::alloc::{AllocError, Global};
 
 /// The facts that conditions are built from: the candidate facts, and the facts that occur in the conditions of the
 /// graph.
 #[derive(Drop)]
-pub enum Finder<'a> {
-    Known(Simple, Vec<KnownFact>),
+pub enum ConditionSearch<'a> {
+    Known(SingleFactConditions, Vec<KnownFact>),
     Selected(Selected<'a>, Vec<Fact>, Vec<Fact>),
 }
 
@@ -39,7 +39,7 @@ fn selected_facts(
     Ok(facts)
 }
 
-impl<'a> Finder<'a> {
+impl<'a> ConditionSearch<'a> {
     /// Returns a finder for sets of the selected targets. `host` is the host if conditions are evaluated on it too, and
     /// `values` are the facts that occur in the conditions of the graph. Fails if memory is refused.
     pub fn of(
@@ -47,22 +47,27 @@ impl<'a> Finder<'a> {
         selection: Selection<'a>,
         host: Option<KnownTarget>,
         values: Vec<Cfg>,
-    ) -> Result<Finder<'a>, AllocError> {
+    ) -> Result<ConditionSearch<'a>, AllocError> {
         if !selection.are_named && selection.groups.is_none() {
-            return Ok(Finder::Known(Simple::new(alloc)?, known_facts(alloc, values)?));
+            return Ok(ConditionSearch::Known(
+                SingleFactConditions::new(alloc)?,
+                known_facts(alloc, values)?,
+            ));
         }
         let selected = Selected::of(alloc, selection, host)?;
         let tried = tried_facts(alloc, &selected)?;
         let facts = selected_facts(alloc, &selected, values)?;
-        Ok(Finder::Selected(selected, tried, facts))
+        Ok(ConditionSearch::Selected(selected, tried, facts))
     }
 
     /// Returns a condition that is true on exactly the targets of the set, if a fact, `not(..)` of a fact or the name
     /// of a target is one.
     pub fn simple(&self, alloc: Global, set: TargetSet) -> Result<Option<Platform>, AllocError> {
         match self {
-            Finder::Known(simple, _) => simple.condition(alloc, set),
-            Finder::Selected(selected, tried, _) => simple_condition(alloc, selected, tried, set),
+            ConditionSearch::Known(simple, _) => simple.condition(alloc, set),
+            ConditionSearch::Selected(selected, tried, _) => simple_condition(
+                alloc, selected, tried, set,
+            ),
         }
     }
 
@@ -85,8 +90,10 @@ impl<'a> Finder<'a> {
         set: TargetSet,
     ) -> Result<Option<Platform>, AllocError> {
         match self {
-            Finder::Known(_, facts) => covering(alloc, facts, set),
-            Finder::Selected(selected, _, facts) => covering_of(alloc, selected, facts, set),
+            ConditionSearch::Known(_, facts) => covering(alloc, facts, set),
+            ConditionSearch::Selected(selected, _, facts) => covering_of(
+                alloc, selected, facts, set,
+            ),
         }
     }
 
@@ -97,8 +104,10 @@ impl<'a> Finder<'a> {
         set: TargetSet,
     ) -> Result<Option<Platform>, AllocError> {
         match self {
-            Finder::Known(simple, _) => covering(alloc, simple.facts(), set),
-            Finder::Selected(selected, tried, _) => covering_of(alloc, selected, tried, set),
+            ConditionSearch::Known(simple, _) => covering(alloc, simple.facts(), set),
+            ConditionSearch::Selected(selected, tried, _) => covering_of(
+                alloc, selected, tried, set,
+            ),
         }
     }
 }

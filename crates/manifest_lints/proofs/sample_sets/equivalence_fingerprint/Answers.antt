@@ -6,7 +6,7 @@ use Rattle.cargo_platform.specs.Facts.{pair_of}
 use Rattle.cargo_platform.specs.Warnings.{values, condition_values}
 use Rattle.manifest_lints.specs.declared.sample_sets.TheConstants.{FEW}
 use Rattle.manifest_lints.specs.Numbers.{unknown_beside, apart_of, summed, pair_at}
-use Rattle.manifest_lints.proofs.sample_sets.beyond_targets.Goals as goal
+use Rattle.manifest_lints.proofs.sample_sets.equivalence_fingerprint.Goals as goal
 
 pub returns-in-Some : goal.returns-in-Some
 returns-in-Some c = λ own.

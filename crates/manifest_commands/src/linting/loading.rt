@@ -7,7 +7,7 @@ use diagnostics::{
 use key_answers::answer::Status;
 use manifest_answers::cargo_refuses::Rejected;
 use manifest_answers::deep::{DeepKey, first_deep};
-use manifest_answers::taking::{Taken, manifest_at, taken_at};
+use manifest_answers::normalizing::{NormalizedManifest, manifest_at, read_normalized};
 use manifests::reading::{Manifest, ReadError};
 use std::alloc::{AllocError, Global};
 use std::rt::{Env, Files};
@@ -113,7 +113,7 @@ fn report_unusable(
 }
 
 /// Returns the configuration at a path. If it can't be used, this is reported and `None` returned.
-pub fn usable_at<R: Files + Input + AllocGlobal>(
+pub fn load_configuration<R: Files + Input + AllocGlobal>(
     rt: &R,
     path: &str,
     run: &mut LintRun<'_>,
@@ -152,14 +152,14 @@ fn report_rejected(
 
 /// Returns the manifest at a path, with what it inherits from the root of its workspace in its place. What Cargo
 /// rejects in it is reported, and so is a manifest that can't be used, for which `None` is returned.
-pub fn manifest_taken<R: Files + Input + Env + AllocGlobal>(
+pub fn load_manifest<R: Files + Input + Env + AllocGlobal>(
     rt: &R,
     path: &str,
     run: &mut LintRun<'_>,
 ) -> Result<Option<Manifest>, AllocError> {
     let alloc = rt.alloc();
-    match taken_at(rt, &mut run.documents, path, true) {
-        Ok(Taken { manifest, rejected }) => {
+    match read_normalized(rt, &mut run.documents, path, true) {
+        Ok(NormalizedManifest { manifest, rejected }) => {
             report_rejected(alloc, &manifest, &rejected, run)?;
             usable(alloc, manifest, run)
         }

@@ -5,7 +5,7 @@ use denote.Shadow.{shadow}
 use Rattle.std.specs.List.{AllByRecursion}
 use Rattle.cargo_platform.specs.Lines.{lines_of, IsUnbroken, ended}
 use Rattle.target_tables.specs.Rows.{AreFilled}
-use Rattle.target_tables.proofs.blocks.filled_front.Given as goal
+use Rattle.target_tables.proofs.blocks.take_block.Given as goal
 
 abbrev pub invariant-lines : goal.invariant-lines
 invariant-lines l = record {

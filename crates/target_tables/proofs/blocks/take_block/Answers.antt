@@ -4,7 +4,7 @@ use Rattle.std.proofs.lemmas.Grind.{common_steps}
 use Rattle.cargo_platform.specs.Lines.{lines_of, IsUnbroken}
 use Rattle.target_tables.specs.Rows.{AreFilled}
 use Rattle.target_tables.proofs.Fronts.{all_append, lines_of_ended, one_more_line}
-use Rattle.target_tables.proofs.blocks.filled_front.Goals as goal
+use Rattle.target_tables.proofs.blocks.take_block.Goals as goal
 
 pub returns-then-is_empty-clause-lines : goal.returns-then-is_empty-clause-lines
 returns-then-is_empty-clause-lines c =
