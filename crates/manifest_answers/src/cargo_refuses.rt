@@ -3,7 +3,7 @@
 use crate::dependency_rules::{CheckedDependency, WorkspaceRoot, rejected_dependency};
 use cargo_platform::shown_start;
 use input_limits::without_mark;
-use manifest_lints_findings::{Level, shown_table, wrong_places};
+use manifest_lints_findings::{Level, shown_table, table_diagnostics};
 use manifests::key_places::place_of_path;
 use manifests::locations::Location;
 use manifests::{Kind, table_of};
@@ -223,7 +223,7 @@ fn keys_of(alloc: Global, subject: &str) -> Result<Vec<String>, AllocError> {
 
 /// Returns the first table or package whose name Cargo does not take where it is.
 fn rejected_place(alloc: Global, manifest: &Table) -> Result<Option<At>, AllocError> {
-    for it in &wrong_places(alloc, manifest)? {
+    for it in &table_diagnostics(alloc, manifest)? {
         if it.level == Level::Error {
             let subject = it.subject.as_str();
             let message = it.message.as_str();

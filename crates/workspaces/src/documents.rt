@@ -281,7 +281,8 @@ impl Documents {
         Ok(())
     }
 
-    /// Takes the manifest at a path out of the cache, if it has been read and can be used. If it is still needed, it is copied.
+    /// Takes the manifest at a path out of the cache, if it has been read and can be used. If it is still needed, it is
+    /// copied.
     /// Standard input has not been read.
     ///
     /// Fails only if an allocation fails.

@@ -115,8 +115,8 @@ fn overrides_defaults(own: &Table, shared: &Value) -> bool {
     }
 }
 
-/// Returns why Cargo rejects a dependency with `workspace = true` and these other fields, which have the types that it
-/// expects, and `None` if the types are those. `shared` is the table `workspace.dependencies` of the root.
+/// Returns why Cargo rejects a dependency with `workspace = true` and these other fields, or `None` if Cargo accepts it.
+/// The fields have the types that Cargo expects. `shared` is the table `workspace.dependencies` of the root.
 pub fn uninheritable(
     name: &str,
     own: &Table,
