@@ -8,7 +8,7 @@ use crate::level_rules::{LintLevel, Occurrence};
 use cargo_platform::shown_start;
 use key_answers::answer::Status;
 use manifest_lints_findings::{Children, Code, Level, Lint};
-use manifests::locations::Location;
+use manifests::key_locations::Location;
 use std::alloc::{AllocError, Global};
 use toml_spans::{Position, Span};
 
@@ -144,7 +144,7 @@ impl Diagnostic {
 
 /// A diagnostic as it is printed.
 #[derive(Clone, Copy, Drop)]
-pub struct Reported<'a> {
+pub struct EmittedDiagnostic<'a> {
     pub diagnostic: &'a Diagnostic,
     /// The level after the rules.
     pub level: LintLevel,
@@ -154,7 +154,7 @@ pub struct Reported<'a> {
     pub text: &'a str,
 }
 
-impl<'a> Reported<'a> {
+impl<'a> EmittedDiagnostic<'a> {
     /// Returns the path of the manifest, if the diagnostic is about a file.
     pub fn file(&self) -> Option<&'a str> {
         if self.path.is_empty() {

@@ -4,7 +4,7 @@ use crate::diagnostic::Diagnostic;
 use crate::level_rules::LintLevel;
 use crate::unquoted::Unquoted;
 use manifest_lints_findings::Children;
-use manifests::locations::{Location, Locations};
+use manifests::key_locations::{Location, Locations};
 use manifests::reading::SyntaxError;
 use std::alloc::{AllocError, Global};
 use toml_spans::Span;

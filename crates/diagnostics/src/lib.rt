@@ -16,7 +16,9 @@ mod replacements;
 mod source_lines;
 mod unquoted;
 
-pub use diagnostic::{Diagnostic, Label, Reported, default_level, end_of, level_word, status_of};
+pub use diagnostic::{
+    Diagnostic, EmittedDiagnostic, Label, default_level, end_of, level_word, status_of,
+};
 pub use failures::{diagnostic_of_failure, diagnostic_of_key, diagnostic_of_syntax};
 pub use level_laws::{one_level, rules_that_do_not_apply_do_nothing, the_last_decides};
 pub use level_rules::{LintLevel, Occurrence, Rule, Setting, Subject, level_by, level_by_each};

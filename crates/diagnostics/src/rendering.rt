@@ -1,10 +1,10 @@
 //! Diagnostics as rustc prints them for people: the message, the place, and the line of the manifest with marks below.
 
-use crate::diagnostic::{Diagnostic, Reported, level_word};
+use crate::diagnostic::{Diagnostic, EmittedDiagnostic, level_word};
 use crate::level_rules::LintLevel;
 use crate::source_lines::{CUT, Window};
 use manifest_lints_findings::Children;
-use manifests::locations::Location;
+use manifests::key_locations::Location;
 use std::alloc::{AllocError, Global};
 
 /// A place that is marked.
@@ -261,7 +261,7 @@ fn push_arrow(
     output: &mut String,
     alloc: Global,
     gutter: &str,
-    reported: &Reported<'_>,
+    reported: &EmittedDiagnostic<'_>,
 ) -> Result<(), AllocError> {
     let Some(path) = reported.file() else {
         return Ok(());
@@ -300,7 +300,11 @@ fn push_children(
 }
 
 /// Returns the first line of a diagnostic: the level, the lint if there is one, and the message.
-fn head_of(alloc: Global, reported: &Reported<'_>, colours: bool) -> Result<String, AllocError> {
+fn head_of(
+    alloc: Global,
+    reported: &EmittedDiagnostic<'_>,
+    colours: bool,
+) -> Result<String, AllocError> {
     let level = coloured(alloc, reported.level, colours)?;
     let message = reported.diagnostic.message.as_str();
     match reported.diagnostic.code() {
@@ -313,7 +317,7 @@ fn head_of(alloc: Global, reported: &Reported<'_>, colours: bool) -> Result<Stri
 pub fn push_rendered(
     output: &mut String,
     alloc: Global,
-    reported: &Reported<'_>,
+    reported: &EmittedDiagnostic<'_>,
     colours: bool,
 ) -> Result<(), AllocError> {
     let diagnostic = reported.diagnostic;

@@ -3,7 +3,7 @@
 use crate::diagnostic::Diagnostic;
 use crate::removals::removals_of;
 use manifest_lints_findings::{Code, Lint};
-use manifests::locations::Location;
+use manifests::key_locations::Location;
 use std::alloc::{AllocError, Global};
 use toml_spans::Position;
 

@@ -3,7 +3,7 @@
 
 use crate::replacements::quoted_key;
 use cargo_platform::shown_start;
-use manifests::locations::Location;
+use manifests::key_locations::Location;
 use std::alloc::{AllocError, Global};
 use toml_spans::Span;
 

@@ -29,7 +29,7 @@ impl Bounds {
     }
 
     /// Returns whether a release is named, and is the first one that is known to lack the name, or a later one.
-    pub fn is_lacking(self, named: Option<Release>) -> bool
+    pub fn is_removed_in(self, named: Option<Release>) -> bool
         ensures { IsTrue result ↔ IsLacking self named }
     {
         match named {
@@ -40,7 +40,7 @@ impl Bounds {
 
     /// Returns whether no minor release is between the two, so that `gone` is exactly the first release without the
     /// name.
-    pub fn is_close(self) -> bool
+    pub fn is_exact(self) -> bool
         ensures { IsTrue result ↔ IsClose self }
     {
         let Bounds { last, gone } = self;
@@ -55,7 +55,7 @@ impl Bounds {
         if self.is_known_to(rustc) {
             return Verdict::Known;
         }
-        if self.is_lacking(rustc) || self.is_lacking(rust_version) {
+        if self.is_removed_in(rustc) || self.is_removed_in(rust_version) {
             return Verdict::GoneForAll;
         }
         Verdict::Gone

@@ -9,7 +9,7 @@ use graph_queries::query::GraphQuery;
 use key_answers::answer::{Answer, Refusal, Status, unusable_words};
 use key_answers::json_lines;
 use key_answers::printing::shown_name;
-use key_answers::targets::At;
+use key_answers::targets::TargetNames;
 use known_targets::TargetSet;
 use serde::Serialize;
 use std::alloc::{AllocError, Global};
@@ -27,11 +27,11 @@ struct ChangeLine<'c, 'd, 'a> {
     /// The number of targets in `at`.
     targets: usize,
     /// The selected targets on which the package is in the build.
-    at: At<'a>,
+    at: TargetNames<'a>,
     /// The selected targets on which it is in the build, and was not before.
-    gained: At<'a>,
+    gained: TargetNames<'a>,
     /// The selected targets on which it was in the build before, and is not.
-    lost: At<'a>,
+    lost: TargetNames<'a>,
     /// The licence expression of the package.
     license: Option<&'d str>,
     /// The licence expression before.

@@ -6,7 +6,7 @@ use crate::excluded::subject_of;
 use crate::faults::{fault_lines, fault_message};
 use crate::graph::Graph;
 use crate::identifiers::{Messages, Place};
-use crate::licence_report::{Reported, counts_line};
+use crate::licence_report::{LicenceReport, counts_line};
 use crate::lines::push;
 use crate::policies::AuditPolicy;
 use crate::query::{GraphArguments, GraphQuery, unusable_words};
@@ -245,7 +245,7 @@ pub fn show_licences<'a>(
         answer.raise(Status::Found);
     }
     let paths = paths_to_reported(alloc, graph, &findings, query)?;
-    let reported = Reported {
+    let reported = LicenceReport {
         graph,
         findings: &findings,
         query,

@@ -3,10 +3,10 @@
 use crate::dependency_paths::PackagesOn;
 use crate::faults::fault_message;
 use crate::graph::Graph;
-use crate::licence_report::{Reason, Reported};
+use crate::licence_report::{LicenceReport, Reason};
 use crate::packages::name_and_version;
 use key_answers::json_lines;
-use key_answers::targets::At;
+use key_answers::targets::TargetNames;
 use licence_audits::Finding;
 use serde::Serialize;
 use std::alloc::{AllocError, Global};
@@ -26,7 +26,7 @@ struct LicenceLine<'a> {
     /// The number of targets in `at`.
     targets: usize,
     /// The selected targets on which the package is in the build.
-    at: At<'a>,
+    at: TargetNames<'a>,
     /// The ids of the packages on a shortest dependency path from a root to this package, on the first of these
     /// targets. Null if features are resolved, and they do not use this path.
     path: Option<Vec<&'a str>>,
@@ -73,7 +73,7 @@ fn ids_of<'a>(
     Ok(Some(ids))
 }
 
-impl<'r, 'a> Reported<'r, 'a> {
+impl<'r, 'a> LicenceReport<'r, 'a> {
     /// Appends the line of a reported package.
     fn push_object(
         &self,

@@ -103,7 +103,7 @@ fn sorted_labels(
 
 /// The packages that an audit reports.
 #[derive(Clone, Copy, Drop)]
-pub struct Reported<'r, 'a> {
+pub struct LicenceReport<'r, 'a> {
     pub graph: &'r Graph<'a>,
     pub findings: &'r [PackageFinding],
     pub query: &'r GraphQuery<'a>,
@@ -111,7 +111,7 @@ pub struct Reported<'r, 'a> {
     pub paths: &'r [PackagesOn],
 }
 
-impl<'r, 'a> Reported<'r, 'a> {
+impl<'r, 'a> LicenceReport<'r, 'a> {
     /// Returns the index of the package of a report.
     fn index_of(&self, place: usize) -> Option<usize> {
         let one = self.findings.get(place)?;

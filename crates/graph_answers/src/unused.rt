@@ -8,7 +8,7 @@ use diagnostics::LintLevel;
 use key_answers::answer::{Answer, Status};
 use licence_audits::{Subject, is_unused_entry, is_unused_exception};
 use licence_policies::UnusedLevel;
-use manifests::locations::Location;
+use manifests::key_locations::Location;
 use spdx_expressions::Licence;
 use std::alloc::{AllocError, Global};
 use std::slice;

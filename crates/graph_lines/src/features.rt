@@ -1,6 +1,6 @@
 //! `--show features`: the features of each package that are on, and the targets on which they are on.
 
-use graph_queries::Features;
+use graph_queries::ResolvedFeatures;
 use graph_queries::graph::Graph;
 use graph_queries::lines::{push, shown, shown_targets};
 use graph_queries::packages::name_and_version;
@@ -8,7 +8,7 @@ use graph_queries::query::GraphQuery;
 use graph_queries::sides::{is_selected, side_note, side_word};
 use key_answers::answer::{Answer, Status};
 use key_answers::json_lines;
-use key_answers::targets::At;
+use key_answers::targets::TargetNames;
 use known_targets::TargetSet;
 use package_graphs::Side;
 use serde::Serialize;
@@ -27,7 +27,7 @@ struct FeatureLine<'g, 'f, 'a> {
     /// The number of targets in `at`.
     targets: usize,
     /// The selected targets on which the feature is on.
-    at: At<'a>,
+    at: TargetNames<'a>,
 }
 
 /// A feature of a package that is on for a side, with the selected targets on which it is.
@@ -42,7 +42,7 @@ struct On<'f> {
 /// Appends the features of a package that are on for a side, if that is selected.
 fn push_on<'f>(
     found: &mut Vec<On<'f>>,
-    features: &Features<'f>,
+    features: &ResolvedFeatures<'f>,
     index: usize,
     side: Side,
     query: &GraphQuery<'_>,

@@ -1,6 +1,6 @@
 //! `--show unified`: the packages that are built with different features, on different targets or for the host.
 
-use graph_queries::Features;
+use graph_queries::ResolvedFeatures;
 use graph_queries::graph::Graph;
 use graph_queries::lines::{push, shown, shown_targets};
 use graph_queries::packages::name_and_version;
@@ -8,7 +8,7 @@ use graph_queries::query::GraphQuery;
 use graph_queries::sides::{is_selected, side_note, side_word};
 use key_answers::answer::{Answer, Status};
 use key_answers::json_lines;
-use key_answers::targets::At;
+use key_answers::targets::TargetNames;
 use known_targets::{TargetSet, classes};
 use package_graphs::Side;
 use serde::Serialize;
@@ -37,13 +37,13 @@ struct UnifiedLine<'g, 'l, 'f, 'a> {
     /// The number of targets in `at`.
     targets: usize,
     /// The selected targets on which the package is built with these features.
-    at: At<'a>,
+    at: TargetNames<'a>,
 }
 
 /// Returns the names of the features of a package that are on for a side on some of these targets.
 fn names_on<'a>(
     alloc: Global,
-    features: &Features<'a>,
+    features: &ResolvedFeatures<'a>,
     index: usize,
     side: Side,
     targets: TargetSet,
@@ -64,7 +64,7 @@ fn names_on<'a>(
 /// Returns each set of features with which a package is built for a side, if that is selected, on the selected targets.
 fn built_for<'a>(
     alloc: Global,
-    features: &Features<'a>,
+    features: &ResolvedFeatures<'a>,
     index: usize,
     side: Side,
     query: &GraphQuery<'_>,

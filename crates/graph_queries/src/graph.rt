@@ -2,7 +2,7 @@
 
 use crate::lines::{shown, shown_package};
 use crate::query::GraphQuery;
-use crate::resolving::Features;
+use crate::resolving::ResolvedFeatures;
 use crate::sides::{BySide, is_selected};
 use cargo_metadata::graphs::Linked;
 use cargo_metadata::{Metadata, Package as Described};
@@ -25,7 +25,7 @@ pub struct Graph<'a> {
     /// For each package whether another one has its name and version.
     pub twins: Vec<bool>,
     /// The resolved features, if feature resolution is requested.
-    pub features: Option<Features<'a>>,
+    pub features: Option<ResolvedFeatures<'a>>,
 }
 
 impl<'a> Graph<'a> {
@@ -85,7 +85,7 @@ impl<'a> Graph<'a> {
 
     /// Returns the targets on which dependencies lead to a package, for a selected side, whether features leave it out
     /// or not.
-    pub fn led_to(&self, index: usize) -> TargetSet {
+    pub fn targets_before_features(&self, index: usize) -> TargetSet {
         match self.side {
             Some(side) => self.sets.on(index, side),
             None => self.sets.at(index),

@@ -20,4 +20,4 @@ mod resolving;
 pub mod sides;
 mod unsupported;
 
-pub use resolving::{Features, Resolution};
+pub use resolving::{Resolution, ResolvedFeatures};

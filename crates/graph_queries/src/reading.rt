@@ -4,7 +4,7 @@ use crate::graph::Graph;
 use crate::incomplete::filtered_reason;
 use crate::query::GraphQuery;
 use crate::refused::{depth_reason, document_reason, graph_reason};
-use crate::resolving::{Features, resolution_of};
+use crate::resolving::{ResolvedFeatures, resolution_of};
 use crate::unsupported::unsupported_reason;
 use cargo_metadata::fields::text_at;
 use cargo_metadata::graphs::{Linked, link};
@@ -221,7 +221,7 @@ pub fn graph_of<'a>(
     let mut graph = Graph::of(alloc, metadata, linked, query)?;
     graph.workspace = text_at(document, "workspace_root");
     if let (Some(resolution), Ok(declared)) = (resolution, declared) {
-        graph.features = Some(Features {
+        graph.features = Some(ResolvedFeatures {
             declarations: declared,
             resolution,
         });

@@ -2,7 +2,7 @@
 
 use crate::graph::Graph;
 use crate::query::GraphQuery;
-use crate::resolving::Features;
+use crate::resolving::ResolvedFeatures;
 use cargo_features::{Build, Dependency, Member, Package, used_packages};
 use known_targets::TargetSet;
 use std::alloc::{AllocError, Global};
@@ -116,12 +116,16 @@ fn taken(
 fn left_out(
     alloc: Global,
     graph: &Graph<'_>,
-    features: &Features<'_>,
+    features: &ResolvedFeatures<'_>,
 ) -> Result<Vec<TargetSet>, AllocError> {
     let mut left = Vec::new(alloc);
     for i in 0..graph.linked.packages.len() {
         let used = features.resolution.resolved.used(i);
-        left.push(graph.led_to(i).intersection(used.complement()))?;
+        left.push(
+            graph
+                .targets_before_features(i)
+                .intersection(used.complement()),
+        )?;
     }
     Ok(left)
 }

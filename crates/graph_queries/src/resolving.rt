@@ -17,7 +17,7 @@ use std::alloc::Global;
 
 /// The resolved features of a graph.
 #[derive(Drop)]
-pub struct Features<'a> {
+pub struct ResolvedFeatures<'a> {
     pub declarations: Declarations<'a>,
     pub resolution: Resolution,
 }

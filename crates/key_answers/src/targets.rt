@@ -7,15 +7,15 @@ use std::alloc::{AllocError, Global};
 /// Targets by their names, or all selected ones.
 #[derive(Drop, Serialize)]
 #[serde(untagged)]
-pub enum At<'a> {
-    All(Every),
+pub enum TargetNames<'a> {
+    All(AllTargets),
     Names(Vec<&'a str>),
 }
 
 /// The word for all targets.
 #[derive(Clone, Copy, Debug, PartialEq, Eq, Drop, Serialize)]
 #[serde(rename_all = "lowercase")]
-pub enum Every {
+pub enum AllTargets {
     All,
 }
 

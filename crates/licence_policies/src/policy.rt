@@ -5,11 +5,11 @@ use crate::keys::TableKind;
 use crate::licence_table::read_licences;
 use crate::reader::Reader;
 use diagnostics::{
-    Diagnostic, LintLevel, Reported, diagnostic_of_failure, diagnostic_of_syntax, push_rendered,
+    Diagnostic, LintLevel, EmittedDiagnostic, diagnostic_of_failure, diagnostic_of_syntax, push_rendered,
 };
 use input_limits::without_mark;
 use licence_audits::{Exception, PackageSpec};
-use manifests::locations::Location;
+use manifests::key_locations::Location;
 use manifests::reading::{ManifestText, ReadError};
 use spdx_expressions::Licence;
 use std::alloc::{AllocError, Global};
@@ -105,7 +105,7 @@ impl PolicySource {
     /// Returns a diagnostic on the policy as rustc prints it for people. Fails if an allocation fails.
     pub fn rendered(&self, alloc: Global, diagnostic: &Diagnostic) -> Result<String, AllocError> {
         let mut output = String::new(alloc);
-        let reported = Reported {
+        let reported = EmittedDiagnostic {
             diagnostic,
             level: diagnostic.level,
             path: self.path.as_str(),

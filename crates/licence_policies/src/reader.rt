@@ -5,7 +5,7 @@ use crate::policy::UnusedLevel;
 use cargo_platform::shown_start;
 use diagnostics::{Diagnostic, LintLevel, diagnostic_of_failure};
 use manifest_lints_findings::near;
-use manifests::locations::{Location, Locations, path_of};
+use manifests::key_locations::{Location, Locations, path_of};
 use spdx_expressions::ParseError;
 use std::alloc::{AllocError, Global};
 use toml::{Table, Value};

@@ -3,11 +3,12 @@
 //! [rustc's](https://doc.rust-lang.org/rustc/json.html).
 
 use diagnostics::{
-    Diagnostic, Replacement, Reported, Window, end_of, level_word, push_rendered, replacement_of,
+    Diagnostic, EmittedDiagnostic, Replacement, Window, end_of, level_word, push_rendered,
+    replacement_of,
 };
 use key_answers::json_lines;
 use manifest_lints_findings::Children;
-use manifests::locations::Location;
+use manifests::key_locations::Location;
 use serde::Serialize;
 use std::alloc::{AllocError, Global};
 
@@ -124,7 +125,7 @@ fn line_of(alloc: Global, text: &str, at: Location) -> Result<RustcLine, AllocEr
 /// Returns a place of a manifest, with a label if it is that of an earlier key.
 fn span_of(
     alloc: Global,
-    reported: &Reported<'_>,
+    reported: &EmittedDiagnostic<'_>,
     at: Location,
     label: Option<&'static str>,
 ) -> Result<RustcSpan, AllocError> {
@@ -149,7 +150,7 @@ fn span_of(
 }
 
 /// Returns the places of a diagnostic.
-fn spans_of(alloc: Global, reported: &Reported<'_>) -> Result<Vec<RustcSpan>, AllocError> {
+fn spans_of(alloc: Global, reported: &EmittedDiagnostic<'_>) -> Result<Vec<RustcSpan>, AllocError> {
     let mut spans = Vec::new(alloc);
     for at in &reported.diagnostic.primary {
         spans.push(span_of(alloc, reported, *at, None)?)?;
@@ -163,7 +164,7 @@ fn spans_of(alloc: Global, reported: &Reported<'_>) -> Result<Vec<RustcSpan>, Al
 /// Returns a place of what a replacement replaces, with the text to write there.
 fn replaced_span(
     alloc: Global,
-    reported: &Reported<'_>,
+    reported: &EmittedDiagnostic<'_>,
     at: Location,
     replacement: &Replacement,
 ) -> Result<RustcSpan, AllocError> {
@@ -176,7 +177,7 @@ fn replaced_span(
 /// Returns the places of what a replacement replaces, with the text to write there.
 fn replaced_spans(
     alloc: Global,
-    reported: &Reported<'_>,
+    reported: &EmittedDiagnostic<'_>,
     replacement: &Replacement,
 ) -> Result<Vec<RustcSpan>, AllocError> {
     let mut spans = Vec::new(alloc);
@@ -205,7 +206,10 @@ fn child_of(
 
 /// Returns the helps and the notes of a diagnostic. The first help has the places of what the diagnostic suggests to
 /// replace, if it suggests that.
-fn children_of(alloc: Global, reported: &Reported<'_>) -> Result<Vec<RustcChild>, AllocError> {
+fn children_of(
+    alloc: Global,
+    reported: &EmittedDiagnostic<'_>,
+) -> Result<Vec<RustcChild>, AllocError> {
     let texts: &Children = &reported.diagnostic.children;
     let mut children: Vec<RustcChild> = Vec::new(alloc);
     for help in &texts.helps {
@@ -234,7 +238,7 @@ fn code_of(diagnostic: &Diagnostic) -> Option<RustcCode> {
 }
 
 /// Returns a diagnostic in the form of rustc's.
-fn message_of(alloc: Global, reported: &Reported<'_>) -> Result<RustcMessage, AllocError> {
+fn message_of(alloc: Global, reported: &EmittedDiagnostic<'_>) -> Result<RustcMessage, AllocError> {
     let diagnostic: &Diagnostic = reported.diagnostic;
     let mut rendered = String::new(alloc);
     push_rendered(&mut rendered, alloc, reported, false)?;
@@ -250,7 +254,10 @@ fn message_of(alloc: Global, reported: &Reported<'_>) -> Result<RustcMessage, Al
 }
 
 /// Returns the message of Cargo's for a diagnostic.
-fn cargo_message(alloc: Global, reported: &Reported<'_>) -> Result<CompilerMessage, AllocError> {
+fn cargo_message(
+    alloc: Global,
+    reported: &EmittedDiagnostic<'_>,
+) -> Result<CompilerMessage, AllocError> {
     let message = message_of(alloc, reported)?;
     Ok(CompilerMessage {
         reason: "compiler-message",
@@ -270,7 +277,7 @@ fn cargo_message(alloc: Global, reported: &Reported<'_>) -> Result<CompilerMessa
 pub fn push_cargo_message(
     text: &mut String,
     alloc: Global,
-    reported: &Reported<'_>,
+    reported: &EmittedDiagnostic<'_>,
 ) -> Result<(), AllocError> {
     let message = cargo_message(alloc, reported)?;
     json_lines::push_line(text, alloc, &message)

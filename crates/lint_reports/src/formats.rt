@@ -3,9 +3,11 @@
 use crate::cargo_json::push_cargo_message;
 use crate::escapes::escaped;
 use crate::sarif::{push_notification, push_result, sarif_begin, sarif_end};
-use diagnostics::{Diagnostic, LintLevel, Reported, coloured, end_of, level_word, push_rendered};
+use diagnostics::{
+    Diagnostic, EmittedDiagnostic, LintLevel, coloured, end_of, level_word, push_rendered,
+};
 use key_answers::json_lines;
-use manifests::locations::Location;
+use manifests::key_locations::Location;
 use serde::Serialize;
 use std::alloc::{AllocError, Global};
 
@@ -59,7 +61,7 @@ pub struct Printer {
 }
 
 /// Returns the place of a diagnostic as a line begins with it: the path, line and column, as far as they are known.
-fn short_place(alloc: Global, reported: &Reported<'_>) -> Result<String, AllocError> {
+fn short_place(alloc: Global, reported: &EmittedDiagnostic<'_>) -> Result<String, AllocError> {
     let Some(path) = reported.file() else {
         return Ok(String::new(alloc));
     };
@@ -88,7 +90,7 @@ fn short_message(alloc: Global, diagnostic: &Diagnostic) -> Result<String, Alloc
 fn push_short(
     text: &mut String,
     alloc: Global,
-    reported: &Reported<'_>,
+    reported: &EmittedDiagnostic<'_>,
     colours: bool,
 ) -> Result<(), AllocError> {
     let place = short_place(alloc, reported)?;
@@ -150,7 +152,11 @@ fn all_borrowed(alloc: Global, texts: &[String]) -> Result<Vec<&str>, AllocError
 }
 
 /// Appends a diagnostic as a line of JSON.
-fn push_json(text: &mut String, alloc: Global, reported: &Reported<'_>) -> Result<(), AllocError> {
+fn push_json(
+    text: &mut String,
+    alloc: Global,
+    reported: &EmittedDiagnostic<'_>,
+) -> Result<(), AllocError> {
     let diagnostic = reported.diagnostic;
     let at = diagnostic.location();
     let line = DiagnosticLine {
@@ -191,7 +197,7 @@ fn command_body(alloc: Global, diagnostic: &Diagnostic) -> Result<String, AllocE
 
 /// Returns the properties of a workflow command that say where the diagnostic points to: ` file=..`, and the lines and
 /// columns if they are known.
-fn command_place(alloc: Global, reported: &Reported<'_>) -> Result<String, AllocError> {
+fn command_place(alloc: Global, reported: &EmittedDiagnostic<'_>) -> Result<String, AllocError> {
     let Some(path) = reported.file() else {
         return Ok(String::new(alloc));
     };
@@ -216,7 +222,7 @@ fn command_place(alloc: Global, reported: &Reported<'_>) -> Result<String, Alloc
 fn push_command(
     text: &mut String,
     alloc: Global,
-    reported: &Reported<'_>,
+    reported: &EmittedDiagnostic<'_>,
 ) -> Result<(), AllocError> {
     let word = command_word(reported.level);
     let place = command_place(alloc, reported)?;
@@ -251,7 +257,7 @@ impl Printer {
         &mut self,
         text: &mut String,
         alloc: Global,
-        reported: &Reported<'_>,
+        reported: &EmittedDiagnostic<'_>,
     ) -> Result<(), AllocError> {
         if reported.diagnostic.lint.is_none() {
             return push_notification(&mut self.notifications, alloc, reported);
@@ -266,7 +272,7 @@ impl Printer {
         &mut self,
         text: &mut String,
         alloc: Global,
-        reported: &Reported<'_>,
+        reported: &EmittedDiagnostic<'_>,
     ) -> Result<(), AllocError> {
         match self.style.format {
             Format::Human => push_rendered(text, alloc, reported, self.style.colours),

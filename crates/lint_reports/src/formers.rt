@@ -14,7 +14,7 @@ use toml_spans::Span;
 
 /// The settings that determine which rustc builds a project.
 #[derive(Clone, Copy, Drop)]
-pub struct Project<'a> {
+pub struct ToolchainSettings<'a> {
     pub of_workspace: &'a Settings,
     pub of_package: &'a Settings,
     /// The `rust-version` of the package.
@@ -33,7 +33,7 @@ fn has(texts: &[String], wanted: &str) -> bool {
     false
 }
 
-impl<'a> Project<'a> {
+impl<'a> ToolchainSettings<'a> {
     /// Returns the rustc that builds the project: that of the package, or else that of the workspace.
     fn rustc(&self) -> Option<Release> {
         match self.of_package.rustc {
@@ -52,7 +52,7 @@ impl<'a> Project<'a> {
 
     /// Returns the notes that say why no rustc that builds the project knows a name.
     fn reasons(&self, alloc: Global, bounds: Bounds) -> Result<Children, AllocError> {
-        if bounds.is_lacking(self.rustc()) {
+        if bounds.is_removed_in(self.rustc()) {
             return reasons(alloc, "the rustc of this project", self.rustc());
         }
         reasons(alloc, "rust-version", self.rust_version)
@@ -70,7 +70,7 @@ fn reasons(alloc: Global, subject: &str, release: Option<Release>) -> Result<Chi
 /// Formats until which release rustc knew a name.
 fn until(alloc: Global, name: &str, bounds: Bounds) -> Result<String, AllocError> {
     let Bounds { last, gone } = bounds;
-    if bounds.is_close() {
+    if bounds.is_exact() {
         format!(in alloc; "rustc knew `{name}` until {last}")
     } else {
         format!(in alloc; "rustc {last} knew `{name}`, and {gone} does not")
@@ -84,7 +84,7 @@ fn former(
     key: &str,
     name: &str,
     bounds: Bounds,
-    project: &Project<'_>,
+    project: &ToolchainSettings<'_>,
 ) -> Result<Option<TableDiagnostic>, AllocError> {
     let verdict = bounds.verdict(project.rustc(), project.rust_version);
     if verdict == Verdict::Known {
@@ -113,7 +113,7 @@ fn former_of_target(
     alloc: Global,
     name: &str,
     bounds: Bounds,
-    project: &Project<'_>,
+    project: &ToolchainSettings<'_>,
 ) -> Result<Option<TableDiagnostic>, AllocError> {
     let Some(mut wrong) = former(alloc, name, name, bounds, project)? else {
         return Ok(None);
@@ -166,7 +166,7 @@ impl<'a> FormerFact<'a> {
         &self,
         alloc: Global,
         key: &str,
-        project: &Project<'_>,
+        project: &ToolchainSettings<'_>,
     ) -> Result<Option<TableDiagnostic>, AllocError> {
         let name = self.key;
         let value = self.value;
@@ -188,7 +188,7 @@ impl<'a> FormerFact<'a> {
 
 /// The names in a manifest that rustc knew until some release.
 #[derive(Drop)]
-pub struct Formers {
+pub struct FormerNames {
     /// The diagnostics on these names.
     pub found: Vec<TableDiagnostic>,
     /// The facts among them, as `rustc --print cfg` printed them.
@@ -222,14 +222,14 @@ fn may_have(key: &str) -> bool {
     former_target(key).is_some() || has_former_value(key)
 }
 
-impl Formers {
+impl FormerNames {
     /// Adds a fact that occurs in a key.
     fn add_fact(
         &mut self,
         alloc: Global,
         key: &str,
         fact: &FormerFact<'_>,
-        project: &Project<'_>,
+        project: &ToolchainSettings<'_>,
     ) -> Result<(), AllocError> {
         let printed = fact.printed(alloc)?;
         if !has(&self.facts, printed.as_str()) {
@@ -247,7 +247,7 @@ impl Formers {
         alloc: Global,
         name: &str,
         bounds: Bounds,
-        project: &Project<'_>,
+        project: &ToolchainSettings<'_>,
     ) -> Result<(), AllocError> {
         if project.knows_target(name) {
             return Ok(());
@@ -265,7 +265,7 @@ impl Formers {
         alloc: Global,
         key: &str,
         declared: &Declared<'_>,
-        project: &Project<'_>,
+        project: &ToolchainSettings<'_>,
     ) -> Result<(), AllocError> {
         if let Some(bounds) = former_target(key) {
             return self.add_target(alloc, key, bounds, project);
@@ -288,9 +288,9 @@ impl Formers {
     pub fn of(
         alloc: Global,
         manifest: &Table,
-        project: &Project<'_>,
-    ) -> Result<Formers, AllocError> {
-        let mut formers = Formers {
+        project: &ToolchainSettings<'_>,
+    ) -> Result<FormerNames, AllocError> {
+        let mut formers = FormerNames {
             found: Vec::new(alloc),
             facts: Vec::new(alloc),
             targets: Vec::new(alloc),

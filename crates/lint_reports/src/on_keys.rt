@@ -2,7 +2,7 @@
 
 use diagnostics::{Diagnostic, Label, default_level};
 use manifest_lints_findings::{Children, Finding, Lint, Report, Site, TableDiagnostic};
-use manifests::locations::{Location, Locations};
+use manifests::key_locations::{Location, Locations};
 use std::alloc::{AllocError, Global};
 use toml_spans::Span;
 

@@ -5,7 +5,7 @@ use crate::settings::{Fault, FaultAt, TOOL, UNDERSCORED_TOOL, WORDS, is_fact};
 use cargo_platform::{inside_cfg, shown_start};
 use diagnostics::{Diagnostic, Rule, default_level};
 use manifest_lints_findings::{Children, Lint, near};
-use manifests::locations::{Location, Locations, path_of};
+use manifests::key_locations::{Location, Locations, path_of};
 use std::alloc::{AllocError, Global};
 
 /// The table that contains the table of rules.

@@ -2,9 +2,9 @@
 
 use crate::codes::{Explained, all_explained};
 use crate::escapes::{braced, uri_of};
-use diagnostics::{LintLevel, Replacement, Reported, end_of, level_word, replacement_of};
+use diagnostics::{EmittedDiagnostic, LintLevel, Replacement, end_of, level_word, replacement_of};
 use key_answers::json_lines;
-use manifests::locations::Location as Place;
+use manifests::key_locations::Location as Place;
 use serde::Serialize;
 use std::alloc::{AllocError, Global};
 
@@ -258,13 +258,16 @@ fn region_at(text: &str, at: Place) -> Region {
 }
 
 /// Returns the first place at fault, if it is known.
-fn region_of(reported: &Reported<'_>) -> Option<Region> {
+fn region_of(reported: &EmittedDiagnostic<'_>) -> Option<Region> {
     let at = reported.diagnostic.location()?;
     Some(region_at(reported.text, at))
 }
 
 /// Returns the location of a diagnostic in its manifest, or none if it is about no file.
-fn locations_of(alloc: Global, reported: &Reported<'_>) -> Result<Vec<Location>, AllocError> {
+fn locations_of(
+    alloc: Global,
+    reported: &EmittedDiagnostic<'_>,
+) -> Result<Vec<Location>, AllocError> {
     let mut locations = Vec::new(alloc);
     let uri = uri_of(alloc, reported.path)?;
     if uri.is_empty() {
@@ -279,7 +282,7 @@ fn locations_of(alloc: Global, reported: &Reported<'_>) -> Result<Vec<Location>,
 }
 
 /// Returns the subject, the message, the helps and the notes of a diagnostic.
-fn message_of(alloc: Global, reported: &Reported<'_>) -> Result<OwnedMessage, AllocError> {
+fn message_of(alloc: Global, reported: &EmittedDiagnostic<'_>) -> Result<OwnedMessage, AllocError> {
     let text = reported.diagnostic.paragraph(alloc)?;
     Ok(OwnedMessage {
         text: braced(alloc, text.as_str())?,
@@ -287,7 +290,11 @@ fn message_of(alloc: Global, reported: &Reported<'_>) -> Result<OwnedMessage, Al
 }
 
 /// Returns the change at one of the places of a replacement, with the text to write there.
-fn rewrite_at(reported: &Reported<'_>, at: Place, text: &String) -> Result<Rewrite, AllocError> {
+fn rewrite_at(
+    reported: &EmittedDiagnostic<'_>,
+    at: Place,
+    text: &String,
+) -> Result<Rewrite, AllocError> {
     Ok(Rewrite {
         deleted_region: region_at(reported.text, at),
         inserted_content: OwnedMessage {
@@ -299,7 +306,7 @@ fn rewrite_at(reported: &Reported<'_>, at: Place, text: &String) -> Result<Rewri
 /// Returns the change that writes a replacement into a manifest, at each of its places.
 fn fix_of(
     alloc: Global,
-    reported: &Reported<'_>,
+    reported: &EmittedDiagnostic<'_>,
     replacement: &Replacement,
 ) -> Result<Fix, AllocError> {
     let mut replacements = Vec::new(alloc);
@@ -322,7 +329,7 @@ fn fix_of(
 }
 
 /// Returns the change that a diagnostic suggests, if it suggests one.
-fn fixes_of(alloc: Global, reported: &Reported<'_>) -> Result<Vec<Fix>, AllocError> {
+fn fixes_of(alloc: Global, reported: &EmittedDiagnostic<'_>) -> Result<Vec<Fix>, AllocError> {
     let mut fixes = Vec::new(alloc);
     if let Some(replacement) = replacement_of(alloc, reported.text, reported.diagnostic)? {
         fixes.push(fix_of(alloc, reported, &replacement)?)?;
@@ -334,7 +341,7 @@ fn fixes_of(alloc: Global, reported: &Reported<'_>) -> Result<Vec<Fix>, AllocErr
 pub fn push_result(
     text: &mut String,
     alloc: Global,
-    reported: &Reported<'_>,
+    reported: &EmittedDiagnostic<'_>,
     is_first: bool,
 ) -> Result<(), AllocError> {
     let result = SarifResult {
@@ -352,7 +359,7 @@ pub fn push_result(
 pub fn push_notification(
     text: &mut String,
     alloc: Global,
-    reported: &Reported<'_>,
+    reported: &EmittedDiagnostic<'_>,
 ) -> Result<(), AllocError> {
     let notification = Notification {
         level: sarif_level(reported.level),

@@ -4,8 +4,8 @@ use crate::dependency_rules::{CheckedDependency, WorkspaceRoot, rejected_depende
 use cargo_platform::shown_start;
 use input_limits::without_mark;
 use manifest_lints_findings::{Level, shown_table, table_diagnostics};
-use manifests::key_places::place_of_path;
-use manifests::locations::Location;
+use manifests::dotted_keys::find_dotted_key;
+use manifests::key_locations::Location;
 use manifests::{Kind, table_of};
 use std::alloc::{AllocError, Global};
 use toml::{Table, Value};
@@ -315,7 +315,7 @@ pub fn rejected_by_cargo(
             },
         ) => {
             let text = without_mark(document.text.as_str());
-            let at = place_of_path(alloc, text, &path)?;
+            let at = find_dotted_key(alloc, text, &path)?;
             Ok(Some(Rejected {
                 at,
                 reason,

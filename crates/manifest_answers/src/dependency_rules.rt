@@ -6,7 +6,7 @@ use semver::VersionReq;
 use std::alloc::{AllocError, Global};
 use toml::{Table, Value};
 use unicode_ident::{is_xid_continue, is_xid_start};
-use workspaces::{mistyped, mistyped_beside, uninheritable};
+use workspaces::{first_mistyped_field, inheritance_error, mistyped_beside};
 
 /// The fields of a dependency that are texts.
 const TEXTS: [&str; 9] = [
@@ -244,7 +244,7 @@ fn bad_inherited(
     if found.is_some() {
         return Ok(found);
     }
-    match uninheritable(ruled.name, table, inheriting.shared(), ruled.is_of_2024) {
+    match inheritance_error(ruled.name, table, inheriting.shared(), ruled.is_of_2024) {
         Some(reason) => fixed(alloc, reason),
         None => Ok(None),
     }
@@ -261,7 +261,7 @@ fn bad_fields(
         Some(true) => bad_inherited(alloc, ruled, table, inheriting),
         Some(false) => fixed(alloc, "`workspace` can't be false"),
         None => {
-            let found = bad_type(alloc, mistyped(table, &TEXTS, &FLAGS))?;
+            let found = bad_type(alloc, first_mistyped_field(table, &TEXTS, &FLAGS))?;
             if found.is_some() {
                 return Ok(found);
             }

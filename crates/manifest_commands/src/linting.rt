@@ -11,18 +11,20 @@ use cargo_configuration::{
     manifest_with_targets,
 };
 use cargo_platform::{shown_start, shown_text};
-use diagnostics::{Diagnostic, LintLevel, Occurrence, Reported, Rule, level_by_each, status_of};
+use diagnostics::{
+    Diagnostic, EmittedDiagnostic, LintLevel, Occurrence, Rule, level_by_each, status_of,
+};
 use input_limits::{Unusable, without_mark};
 use key_answers::answer::{Answer, Status};
 use lint_fixes::{FixOptions, Fixes, fix_file};
 use lint_reports::{
-    Counts, Formers, Printer, Project, Settings, Style, diagnostic_of, diagnostic_of_fault,
-    diagnostic_of_unneeded, diagnostic_of_wrong, wrong_fields,
+    Counts, FormerNames, Printer, Settings, Style, ToolchainSettings, diagnostic_of,
+    diagnostic_of_fault, diagnostic_of_unneeded, diagnostic_of_wrong, wrong_fields,
 };
 use loading::{load_configuration, load_manifest, report_without_place};
 use manifest_lints::{Code, Finding, KnownFacts, Report, lint};
 use manifest_lints_findings::{TableDiagnostic, table_diagnostics};
-use manifests::locations::Locations;
+use manifests::key_locations::Locations;
 use manifests::reading::Manifest;
 use std::alloc::{AllocError, Global};
 use std::mem;
@@ -136,7 +138,7 @@ impl<'a> LintRun<'a> {
         source: &Source<'_>,
         diagnostic: &Diagnostic,
     ) -> Result<(), AllocError> {
-        let reported = Reported {
+        let reported = EmittedDiagnostic {
             diagnostic,
             level,
             path: source.path,
@@ -317,7 +319,7 @@ fn found_in_settings(
 struct Beside<'s> {
     settings: &'s Settings,
     /// The names that rustc knew only until some release.
-    formers: Formers,
+    formers: FormerNames,
     /// The diagnostics on misplaced tables and unread fields.
     wrong: Vec<TableDiagnostic>,
 }
@@ -435,7 +437,7 @@ fn found_in(
 fn formers_in(
     alloc: Global,
     locations: &Locations,
-    formers: &Formers,
+    formers: &FormerNames,
 ) -> Result<Vec<Diagnostic>, AllocError> {
     let mut found = Vec::new(alloc);
     for it in &formers.found {
@@ -491,9 +493,9 @@ fn print_report(
 fn declare_formers(
     alloc: Global,
     manifest: &mut Table,
-    project: &Project<'_>,
-) -> Result<Formers, AllocError> {
-    let formers = Formers::of(alloc, manifest, project)?;
+    project: &ToolchainSettings<'_>,
+) -> Result<FormerNames, AllocError> {
+    let formers = FormerNames::of(alloc, manifest, project)?;
     declare(alloc, manifest, &formers.facts)?;
     Ok(formers)
 }
@@ -530,7 +532,7 @@ fn lint_configuration<R: Files + Input + AllocGlobal>(
     let other = root.other.as_ref().or(run.options.other.as_ref());
     add_declared_facts(alloc, other, &mut table)?;
     let settings = Settings::of(alloc, None)?;
-    let project = Project {
+    let project = ToolchainSettings {
         of_workspace: &root.settings,
         of_package: &settings,
         rust_version: None,
@@ -576,7 +578,7 @@ fn lint_at<R: Files + Input + Env + AllocGlobal>(
     let own = file.rustc_with_targets(rt, &mut settings, other)?;
     let other = own.as_ref().or(other);
     add_declared_facts(alloc, other, table)?;
-    let project = Project {
+    let project = ToolchainSettings {
         of_workspace: &root.settings,
         of_package: &settings,
         rust_version: root.rust_version_of(table),

@@ -5,12 +5,12 @@ use crate::limits::{limit_of, text_at};
 use cargo_platform::shown_text;
 use clap::ArgMatches;
 use cyclonedx::{LockError, LockFault, LockFile, read_lock};
-use diagnostics::{Diagnostic, LintLevel, Reported, diagnostic_of_failure};
+use diagnostics::{Diagnostic, EmittedDiagnostic, LintLevel, diagnostic_of_failure};
 use graph_answers::cyclonedx_report::Bill;
 use input_limits::without_mark;
 use key_answers::answer::Refusal;
 use lint_reports::{Format, Printer, Style};
-use manifests::locations::Location;
+use manifests::key_locations::Location;
 use std::alloc::{AllocError, Global};
 use std::rt::Files;
 use toml_spans::{Position, Span};
@@ -40,7 +40,7 @@ fn lines_of<'x>(
     text: &'x str,
     diagnostic: &'x Diagnostic,
 ) -> Result<String, AllocError> {
-    let reported = Reported {
+    let reported = EmittedDiagnostic {
         diagnostic,
         level: LintLevel::Error,
         path: name,

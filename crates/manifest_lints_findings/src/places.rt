@@ -6,7 +6,7 @@ use crate::meant::near;
 use crate::notes_and_helps::Children;
 use cargo_platform::shown_start;
 use known_targets::KnownTarget;
-use manifests::locations::path_of;
+use manifests::key_locations::path_of;
 use std::alloc::{AllocError, Global};
 use toml::{Table, Value};
 use toml_spans::Span;

@@ -3,7 +3,7 @@ use Rattle.std.specs.Prelude.{◌≡◌, ℕ, List}
 use Rattle.toml_spans.specs.Spans.{LiesIn, at_span}
 use Rattle.toml_spans.specs.Names.{Spells, SpellsBetween, quote_in}
 use Rattle.toml_spans.specs.declared.spans.Span.{Span}
-use Rattle.manifests.specs.declared.locations.Location.{Location}
+use Rattle.manifests.specs.declared.key_locations.Location.{Location}
 
 -- the place is in the text, which spells the name there
 abbrev pub IsAtName : List ℕ → List ℕ → Location → Type 0

@@ -5,7 +5,7 @@ ghost use Rattle.toml.specs.View.{table_view};
 ghost use Rattle.manifests.specs.Tables.{target_of, target_told};
 ghost use Rattle.manifests.specs.Documents.{AreInSomeOrder};
 
-use crate::locations::Locations;
+use crate::key_locations::Locations;
 use crate::{Targets, target_keys};
 use std::alloc::{AllocError, Global};
 use toml::Table;
@@ -42,7 +42,7 @@ impl Document {
     {
         match target_keys(alloc, &self.table)? {
             Targets::Keys(mut keys) => {
-                keys.sort_by_cached_key(|key| self.locations.place_of(key.key))?;
+                keys.sort_by_cached_key(|key| self.locations.ordinal_of(key.key))?;
                 Ok(Targets::Keys(keys))
             }
             Targets::NoTable => Ok(Targets::NoTable),

@@ -4,10 +4,10 @@
 
 mod declared;
 pub mod document;
-pub mod key_places;
+pub mod dotted_keys;
+pub mod key_locations;
 pub mod laws;
 mod located;
-pub mod locations;
 mod parts;
 pub mod reading;
 pub mod selection;

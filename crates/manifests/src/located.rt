@@ -3,7 +3,7 @@
 ghost use Rattle.std.specs.Prelude.{◌≡◌, IfOk, IfSome, string_bytes};
 ghost use Rattle.manifests.specs.Located.{IsAtName, IsAtPart};
 
-use crate::locations::{Location, Locations};
+use crate::key_locations::{Location, Locations};
 use std::alloc::{AllocError, Global};
 use toml_spans::{Position, Span, part_of_name, spells};
 

@@ -1,7 +1,7 @@
 //! The reader of manifests from files, folders and standard input.
 
 use crate::document::Document;
-use crate::locations::Location;
+use crate::key_locations::Location;
 use cargo_platform::shown_text;
 use input_limits::{INPUT, Unusable, given_within, without_mark};
 use std::alloc::{AllocError, Global};

@@ -3,7 +3,7 @@
 
 use crate::documents::{Documents, real_path};
 use crate::finding::{Found, ManifestSelection, root_of};
-use crate::inheritance::is_inherited;
+use crate::lint_inheritance::is_inherited;
 use crate::manifests::{folder_of, package_name, shorter, table_in, text_in};
 use crate::patterns::{Pattern, PatternError, is_glob, names_of};
 use cargo_platform::shown_text;

@@ -1,6 +1,6 @@
 //! The folders in which path dependencies of a manifest lie.
 
-use crate::inheritance::is_inherited;
+use crate::lint_inheritance::is_inherited;
 use crate::manifests::{table_in, text_in};
 use std::alloc::{AllocError, Global};
 use toml::{Table, Value};

@@ -8,25 +8,25 @@
 mod choosing;
 mod components;
 mod dependencies;
+mod dependency_inheritance;
 mod documents;
 mod finding;
 mod folders;
 mod glob_matching;
-mod inheritance;
-mod inherited;
+mod lint_inheritance;
 mod manifests;
 mod member_rules;
 mod members;
 mod patterns;
 
 pub use components::{CharacterRange, Characters, Component, Name, Part};
+pub use dependency_inheritance::{
+    first_mistyped_field, inheritance_error, inherits, is_of_2024, mistyped_beside, put_inherited,
+};
 pub use documents::{Document, Documents};
 pub use finding::{Found, ManifestSelection, current_folder_depth, find, put_text, root_of};
 pub use glob_matching::{Piece, all_match};
-pub use inheritance::{Inheritable, inherits_lints};
-pub use inherited::{
-    inherits, is_of_2024, mistyped, mistyped_beside, put_inherited, uninheritable,
-};
+pub use lint_inheritance::{Inheritable, inherits_lints};
 pub use manifests::{
     MANIFEST, folder_of, from_above, inside, is_file, manifest_inside, put, shorter, table_in,
     table_of, text_in,

@@ -2,7 +2,8 @@
 
 use super::{LintRun, Source};
 use diagnostics::{
-    Diagnostic, LintLevel, Reported, diagnostic_of_failure, diagnostic_of_key, diagnostic_of_syntax,
+    Diagnostic, EmittedDiagnostic, LintLevel, diagnostic_of_failure, diagnostic_of_key,
+    diagnostic_of_syntax,
 };
 use key_answers::answer::Status;
 use manifest_answers::cargo_refuses::Rejected;
@@ -21,7 +22,7 @@ impl<'a> LintRun<'a> {
         source: &Source<'_>,
         diagnostic: &Diagnostic,
     ) -> Result<(), AllocError> {
-        let reported = Reported {
+        let reported = EmittedDiagnostic {
             diagnostic,
             level: LintLevel::Error,
             path: source.path,

@@ -201,7 +201,7 @@ impl Locations {
     }
 
     /// Returns the number of keys of `target` that appear before this one, or `usize::MAX` if the key has no place.
-    pub fn place_of(&self, key: &str) -> usize {
+    pub fn ordinal_of(&self, key: &str) -> usize {
         match self.of_key(key) {
             Some(appearance) => appearance.place,
             None => usize::MAX,
@@ -249,7 +249,7 @@ impl Locations {
         key: &str,
         field: &str,
     ) -> Result<String, AllocError> {
-        let path = path_of_key(alloc, self.place_of(key))?;
+        let path = path_of_key(alloc, self.ordinal_of(key))?;
         path_behind(alloc, path.as_str(), field)
     }
 
@@ -300,7 +300,7 @@ impl Locations {
     ) -> Result<(), AllocError> {
         if within.is_target() {
             self.note_key(alloc, name, at)?;
-            inside.path = path_of_key(alloc, self.place_of(name))?;
+            inside.path = path_of_key(alloc, self.ordinal_of(name))?;
             return Ok(());
         }
         if within.is_top() && name == "target" {

@@ -3,7 +3,7 @@
 //! The text is one that parses. This pass goes through it with the toolchain's readers of keys and values. It ends at
 //! the path, or at anything unexpected, and then the place is not known.
 
-use crate::locations::Location;
+use crate::key_locations::Location;
 use crate::reading::location_of;
 use std::alloc::{AllocError, AllocFailed, Global};
 use std::ops::ControlFlow;
@@ -84,7 +84,7 @@ fn key_at_front(alloc: Global, text: &str, rest: &str) -> Result<Option<Location
 /// before `=`, or in an inline table. Returns `None` if it does not appear, or if an array of tables is above it.
 ///
 /// Fails only if an allocation fails.
-pub fn place_of_path(
+pub fn find_dotted_key(
     alloc: Global,
     text: &str,
     path: &[String],

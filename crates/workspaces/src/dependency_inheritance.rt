@@ -2,7 +2,7 @@
 //! ("Workspaces": the tables `package` and `dependencies`).
 
 use crate::dependencies::TABLES;
-use crate::inheritance::is_inherited;
+use crate::lint_inheritance::is_inherited;
 use crate::manifests::{put, table_in, text_in};
 use std::alloc::{AllocError, Global};
 use toml::{Table, Value};
@@ -63,7 +63,7 @@ fn is_texts(value: &Value) -> bool {
 /// Returns the first field of a table that is a dependency which has another type than Cargo expects, with the expected
 /// type. `texts` are the fields that are strings, and `flags` those that are booleans; `features` is an array of
 /// strings.
-pub fn mistyped(
+pub fn first_mistyped_field(
     table: &Table,
     texts: &[&'static str],
     flags: &[&'static str],
@@ -87,7 +87,7 @@ pub fn mistyped(
 /// Returns the first field that a package adds to a dependency which it inherits and that has another type than Cargo
 /// expects, with the expected type.
 pub fn mistyped_beside(own: &Table) -> Option<(&'static str, &'static str)> {
-    mistyped(own, &[], &ADDED_FLAGS)
+    first_mistyped_field(own, &[], &ADDED_FLAGS)
 }
 
 /// Returns why Cargo rejects a dependency of the root, which is a table.
@@ -117,7 +117,7 @@ fn overrides_defaults(own: &Table, shared: &Value) -> bool {
 
 /// Returns why Cargo rejects a dependency with `workspace = true` and these other fields, or `None` if Cargo accepts it.
 /// The fields have the types that Cargo expects. `shared` is the table `workspace.dependencies` of the root.
-pub fn uninheritable(
+pub fn inheritance_error(
     name: &str,
     own: &Table,
     shared: Option<&Table>,
@@ -202,7 +202,7 @@ fn inherited(
     if !is_inherited(Some(own)) || mistyped_beside(own).is_some() {
         return Ok(None);
     }
-    if uninheritable(name, own, Some(shared), is_of_2024).is_some() {
+    if inheritance_error(name, own, Some(shared), is_of_2024).is_some() {
         return Ok(None);
     }
     match shared.get(name) {
