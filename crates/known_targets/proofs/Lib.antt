@@ -1,6 +1,7 @@
 pub mod Bits
 pub mod Found
 pub mod Listed
+pub mod Named
 pub mod Parting
 pub mod Places
 pub mod Rising

@@ -11,6 +11,7 @@ mod known_facts;
 pub mod laws;
 mod listing;
 mod members;
+mod open_names;
 mod open_target;
 mod rows;
 mod table;
