@@ -7,3 +7,4 @@ pub mod Places
 pub mod Rising
 pub mod Steps
 pub mod Taken
+pub mod Unlisted

@@ -19,7 +19,7 @@ mod target_set;
 mod views;
 mod walk;
 
-pub use conditions::{certainly_matching, having, matching, possibly_matching};
+pub use conditions::{certainly_matching, having, is_value, matching, possibly_matching};
 pub use known::KnownTarget;
 pub use known_facts::{KnownFact, all_facts};
 pub use members::Targets;
