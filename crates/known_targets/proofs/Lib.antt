@@ -1,8 +1,10 @@
 pub mod Bits
 pub mod Found
 pub mod Listed
+pub mod Named
 pub mod Parting
 pub mod Places
 pub mod Rising
 pub mod Steps
 pub mod Taken
+pub mod Unlisted

@@ -1,8 +1,11 @@
 -- What is known of a target where the facts of some names and keys are open, and a truth by what is known.
 use Rattle.std.specs.Prelude.{◌≡◌, ℕ, Bool, true, false, IsTrue, List, Option, Some, None, IfSome}
+use Rattle.std.specs.BTreeSet.{BTreeSet, contains_by}
+use Rattle.std.specs.Borrow.{Bor}
 use Rattle.std.specs.FinSet.{contains, insert, remove}
 use Rattle.std.proofs.Common.{refl}
 use Rattle.cargo_platform.specs.Facts.{Pair, FactSet}
+use Rattle.cargo_platform.specs.Key.{text_cmp}
 use Rattle.partial_facts.specs.Partly.{is_named}
 
 abbrev pub unless_open : Bool → Bool → Option Bool
@@ -16,6 +19,10 @@ open_told facts open_keys p = unless_open (is_named p.name open_keys) (contains 
 -- the set is the target's, but for the facts of open names and keys
 abbrev pub IsSameButOpen : FactSet → List (List ℕ) → FactSet → Type 0
 IsSameButOpen facts open_keys s = (p : Pair) → is_named p.name open_keys ≡ false → contains s p ≡ contains facts p
+
+-- the set has each of these names, and no other
+abbrev pub HasNames : List (List ℕ) → BTreeSet (Bor (List ℕ)) → Type 0
+HasNames names set = (name : List ℕ) → contains_by (λ n. text_cmp name n.now) set ≡ is_named name names
 
 -- a truth that may not be known, taken as b where it is not
 abbrev pub taken_as : Bool → Option Bool → Bool

@@ -11,6 +11,7 @@ pub mod laws;
 mod listing;
 mod matching_targets;
 mod members;
+mod open_names;
 mod open_target;
 mod partition;
 mod rows;
@@ -21,7 +22,7 @@ mod walk;
 
 pub use known::KnownTarget;
 pub use known_facts::{KnownFact, all_facts};
-pub use matching_targets::{certainly_matching, having, matching, possibly_matching};
+pub use matching_targets::{certainly_matching, having, is_value, matching, possibly_matching};
 pub use members::Targets;
 pub use open_target::OpenTarget;
 pub use partition::classes;

@@ -3,15 +3,16 @@
 ghost use Rattle.std.specs.Prelude.{◌≡◌, ◌<◌, ◌↔◌, ℕ, [], Some, true, false, IsTrue, IfOk, length, bytes_eq};
 ghost use Rattle.std.specs.List.{slice_index_or};
 ghost use Rattle.std.specs.FinSet.{contains};
-ghost use Rattle.cargo_platform.specs.Trees.{value_of, condition_of};
+ghost use Rattle.cargo_platform.specs.Trees.{Name, KeyPair, value_of, condition_of};
 ghost use Rattle.cargo_platform.specs.Facts.{FactSet, pair_of, IsTrueCondition};
 ghost use Rattle.partial_facts.specs.Conditions.{kleene_condition};
 ghost use Rattle.partial_facts.specs.Partly.{names_of};
 ghost use Rattle.known_targets.specs.Open.{open_told, taken_as, IsSameButOpen};
 ghost use Rattle.known_targets.specs.Sets.{is_member};
-ghost use Rattle.known_targets.specs.Table.{target_name, target_facts};
+ghost use Rattle.known_targets.specs.Listed.{is_had};
+ghost use Rattle.known_targets.specs.Table.{target_name, target_facts, table_keys};
 
-use crate::rows::targets_with;
+use crate::rows::{lists_value, targets_with};
 use crate::table::COUNT;
 use crate::target_set::TargetSet;
 use crate::views::{keys, names};
@@ -102,6 +103,14 @@ pub fn having(c: &Cfg) -> TargetSet
     ensures { (k : ℕ) → k < COUNT → is_member result k ≡ contains (target_facts k) (pair_of (value_of c.now)) }
 {
     targets_with(keys(), c)
+}
+
+/// Returns whether the table lists this text as a value of some key.
+pub fn is_value(text: &str) -> bool
+    // With `false`, no known target has a key with this value.
+    ensures { result ≡ false → (key : Name) → is_had table_keys (KeyPair key text.now) ≡ false }
+{
+    lists_value(keys(), text)
 }
 
 /// Returns the targets with this name.

@@ -8,6 +8,7 @@ ghost use Rattle.known_targets.specs.Bits.{has};
 ghost use Rattle.known_targets.specs.Rows.{keys_of};
 ghost use Rattle.known_targets.specs.Groups.{both, IsTrueAt, AreBounds};
 
+use crate::open_names::OpenNames;
 use crate::rows::{Key, targets_with};
 use crate::table::COUNT;
 use crate::target_set::TargetSet;
@@ -26,7 +27,8 @@ pub fn true_at(
 ) -> Result<TargetSet, AllocError>
     ensures { IfOk result (IsTrueAt (keys_of keys.now) (names_of open_keys.now) unknown (tree_of e.now)) }
 {
-    let bounds = fold_expression(alloc, e, &AtTargets { keys, open_keys })?;
+    let open = OpenNames::new(alloc, open_keys)?;
+    let bounds = fold_expression(alloc, e, &AtTargets { keys, open: &open })?;
     Ok(if unknown {
         bounds.possible
     } else {
@@ -43,12 +45,12 @@ pub struct Bounds {
 
 /// The targets of the table, whose facts of some names and keys are open.
 #[derive(Clone, Copy, Drop)]
-struct AtTargets<'a> {
-    keys: &'a [Key],
-    open_keys: &'a [&'a str],
+struct AtTargets<'t, 'a> {
+    keys: &'t [Key],
+    open: &'t OpenNames<'a>,
 }
 
-impl<'a> Fold for AtTargets<'a> {
+impl<'t, 'a> Fold for AtTargets<'t, 'a> {
     ghost use Rattle.cargo_platform.specs.Walk.{list_tree};
 
     type Part = Bounds;
@@ -56,13 +58,13 @@ impl<'a> Fold for AtTargets<'a> {
     /// The bounds of the group so far.
     type Members = Bounds;
 
-    ghost makes = { λ t e bounds. AreBounds (keys_of t.keys.now) (names_of t.open_keys.now) e bounds };
+    ghost makes = { λ t e bounds. AreBounds (keys_of t.keys.now) (names_of t.open.now.names.now) e bounds };
 
     ghost gathers = { λ t neutral es bounds.
-        AreBounds (keys_of t.keys.now) (names_of t.open_keys.now) (list_tree neutral es) bounds };
+        AreBounds (keys_of t.keys.now) (names_of t.open.now.names.now) (list_tree neutral es) bounds };
 
     fn value(&self, c: &Cfg) -> Result<Bounds, AllocError> {
-        Ok(told_to_have(self.keys, self.open_keys, c))
+        Ok(told_to_have(self.keys, self.open, c))
     }
 
     fn literal(&self, truth: bool) -> Bounds {
@@ -114,10 +116,10 @@ fn all_or_none(are_in: bool) -> Bounds
 }
 
 /// Returns the targets that have the fact for certain, and those that may have it. If it is open, any target may.
-fn told_to_have(keys: &[Key], open_keys: &[&str], c: &Cfg) -> Bounds
-    ensures { AreBounds (keys_of keys.now) (names_of open_keys.now) (Value (value_of c.now)) result }
+fn told_to_have(keys: &[Key], open: &OpenNames<'_>, c: &Cfg) -> Bounds
+    ensures { AreBounds (keys_of keys.now) (names_of open.now.names.now) (Value (value_of c.now)) result }
 {
-    if is_open(open_keys, c) {
+    if open.has(c) {
         return Bounds {
             certain: TargetSet::none(),
             possible: TargetSet::all(),

@@ -10,7 +10,7 @@ pub returns : goal.returns
 returns c = λ es e so_far made.
     let n = c.args.neutral in
     let told : ℕ → Pair → Option Bool =
-    λ k. told_in k (keys_of c.args.self.now.keys.now) (names_of c.args.self.now.open_keys.now) in
+    λ k. told_in k (keys_of c.args.self.now.keys.now) (names_of c.args.self.now.open.now.names.now) in
     record {
       certain = λ k below. c.joined.ensures k below
           ∙ (λ i. both n (so_far.certain k below i) (made.certain k below i)) ∙ one_more n false (told k) es e;
