@@ -12,6 +12,7 @@ mod assuming;
 mod diagram;
 pub mod goal_diagrams;
 mod known;
+pub mod laws;
 mod opening;
 mod outlook;
 mod path;
