@@ -3,4 +3,5 @@ pub mod Collecting
 pub mod Placing
 pub mod Positions
 pub mod Matching
+pub mod Activating
 pub mod Describing

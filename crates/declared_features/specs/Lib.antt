@@ -7,5 +7,6 @@ pub mod Edges
 pub mod Rows
 pub mod Requests
 pub mod Requested
+pub mod Activation
 pub mod Described
 pub mod Inside

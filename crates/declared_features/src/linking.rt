@@ -6,6 +6,7 @@ ghost use Rattle.declared_features.specs.Lists.{HasJust, Adds};
 ghost use Rattle.declared_features.specs.Manifests.{feature_index, features_in, features_at};
 ghost use Rattle.declared_features.specs.Edges.{name_at};
 ghost use Rattle.declared_features.specs.Requested.{is_concerned, IsOneOfAll, AreRequested, HasLast};
+ghost use Rattle.declared_features.specs.Activation.{AreActivated};
 ghost use Rattle.declared_features.specs.Described.{IsDescribed, AreDescribed, KeepsDescribed};
 ghost use Rattle.declared_features.specs.Members.{IsOwn, IsOfDependency, StandsFor, SomeStandsFor, HasListsOf};
 ghost use Rattle.declared_features.specs.Requests.{toml_name, IsDefault, IsRequested, IsNamedOf, AreDependenciesOf};
@@ -15,7 +16,7 @@ ghost use Rattle.declared_features.specs.Inside.Names.{index_in, AreNamesOf};
 use crate::declaring::{Declarations, Declaring, Row, rows_of};
 use crate::entries::FeatureEntry;
 use crate::manifests::{Declared, Manifest};
-use crate::requested::starter_of;
+use crate::requested::activation_root;
 use cargo_features::{Dependency, Member, Package};
 use cargo_metadata::Indexes;
 use package_graphs::Package as Unit;
@@ -454,17 +455,19 @@ fn described_package<'a>(
 }
 
 /// Adds the root that makes the package of the current directory active, if resolver 1 needs one.
-fn add_starter(
+fn add_activation_root(
     alloc: Global,
     requested: &RequestedFeatures<'_>,
     described: &mut Described,
 ) -> Result<(), AllocError>
-    ensures { OnOk result (KeepsDescribed described.old described.new) }
+    ensures kept { OnOk result (KeepsDescribed described.old described.new) }
+    ensures activated { OnOk result
+        (AreActivated requested.now.current described.old.packages.items described.new.packages.items) }
 {
     let Some(current) = requested.current else {
         return Ok(());
     };
-    let Some(package) = starter_of(alloc, &described.packages, current)? else {
+    let Some(package) = activation_root(alloc, &described.packages, current)? else {
         return Ok(());
     };
     described.packages.push(package)?;
@@ -482,7 +485,12 @@ pub fn described_features<'a>(
     // features has the members that the entries of its list stand for. A package of which features are requested has
     // one feature more, whose list has the members that these stand for, and all features if all are requested. A root
     // requests this feature.
-    ensures { IfOk result (AreDescribed graph.now requested.now) }
+    ensures nodes { IfOk result (AreDescribed graph.now requested.now) }
+    // Behind the packages of the nodes is an activation root, if the package of the current directory is no root. There
+    // are no other packages.
+    ensures activated { IfOk result (λ described. (units : List Package)
+        × (length units ≡ length graph.now.linked.now.packages.items)
+        × AreActivated requested.now.current units described.packages.items) }
 {
     let names = Names::of(alloc, graph.declared)?;
     let mut packages = Vec::new(alloc);
@@ -493,6 +501,6 @@ pub fn described_features<'a>(
         edges.push(its_edges)?;
     }
     let mut described = Described { packages, edges };
-    add_starter(alloc, requested, &mut described)?;
+    add_activation_root(alloc, requested, &mut described)?;
     Ok(described)
 }

@@ -1,6 +1,8 @@
 //! Which features are requested of which packages.
 
-ghost use Rattle.std.specs.Prelude.{◌≡◌, IfOk, OnOk, true};
+ghost use Rattle.std.specs.Prelude.{◌≡◌, ◌-◌, ◌∷◌, [], IfOk, IfSome, IfNone, OnOk, true, All, filter, length, map};
+ghost use Rattle.package_graphs.specs.declared.packages.Kind.TheVariants.{Normal};
+ghost use Rattle.declared_features.specs.Activation.{is_dev, request_of, IsUnused, IsActivationRoot, IsActive};
 ghost use Rattle.declared_features.specs.Entries.{IsEntry};
 ghost use Rattle.declared_features.specs.Lists.{HasJust, Adds, MatchesJust};
 ghost use Rattle.declared_features.specs.Requested.{without_root, is_concerned, has_default, IsOneOf, IsOfRoot};
@@ -154,15 +156,18 @@ impl<'a> RequestedFeatures<'a> {
     }
 }
 
-/// Returns a dependency that asks for these features and that no build uses.
+/// Returns a dependency that requests these features and that no build uses.
 fn unused(
     alloc: Global,
     to: usize,
     kind: Kind,
     features: &[usize],
-) -> Result<Dependency, AllocError> {
+) -> Result<Dependency, AllocError>
+    ensures unused { IfOk result IsUnused }
+    ensures request { IfOk result (λ d. request_of d ≡ (to, kind, features.now)) }
+{
     let mut requested = Vec::new(alloc);
-    for feature in features {
+    'features: for feature in features {
         requested.push(*feature)?;
     }
     Ok(Dependency {
@@ -175,32 +180,48 @@ fn unused(
     })
 }
 
+/// Returns the dependencies of an activation root: on the package at the index, with its last feature, and a copy of
+/// each of its dev-dependencies that no build uses.
+fn activating(alloc: Global, index: usize, unit: &Package) -> Result<Vec<Dependency>, AllocError>
+    ensures requests { IfOk result (λ ds. map request_of ds.items
+        ≡ (index, Normal, (length unit.now.features.items - 1) ∷ [])
+        ∷ map request_of (filter (λ d. is_dev d.kind) unit.now.dependencies.items)) }
+    ensures unused { IfOk result (λ ds. All IsUnused ds.items) }
+{
+    let mut dependencies = Vec::new(alloc);
+    let last = [unit.features.len().saturating_sub(1)];
+    dependencies.push(unused(alloc, index, Kind::Normal, &last)?)?;
+    'dependencies: for it in &unit.dependencies {
+        if matches!(it.kind, Kind::Dev) {
+            dependencies.push(unused(alloc, it.to, it.kind, &it.features)?)?;
+        }
+    }
+    Ok(dependencies)
+}
+
 /// Returns a root that makes the package at an index active, with what is requested of it and with its
 /// dev-dependencies, if that package is no root. Resolver 1 does so wherever a dependency is true, and a build uses
 /// neither.
-pub fn starter_of(
+pub fn activation_root(
     alloc: Global,
     packages: &[Package],
     index: usize,
-) -> Result<Option<Package>, AllocError> {
+) -> Result<Option<Package>, AllocError>
+    // The root requests the last feature of the package, and what its dev-dependencies request.
+    ensures root { IfOk result (λ found. IfSome found (IsActivationRoot packages.now index)) }
+    // Without a root, the package is a root itself, or the index is past the end.
+    ensures none { IfOk result (λ found. IfNone found (IsActive packages.now index)) }
+{
     let Some(unit) = packages.get(index) else {
         return Ok(None);
     };
     if unit.is_root {
         return Ok(None);
     }
-    let mut dependencies = Vec::new(alloc);
-    let last = [unit.features.len().saturating_sub(1)];
-    dependencies.push(unused(alloc, index, Kind::Normal, &last)?)?;
-    for it in &unit.dependencies {
-        if matches!(it.kind, Kind::Dev) {
-            dependencies.push(unused(alloc, it.to, it.kind, &it.features)?)?;
-        }
-    }
     Ok(Some(Package {
         is_root: true,
         is_macro: false,
-        dependencies,
+        dependencies: activating(alloc, index, unit)?,
         features: Vec::new(alloc),
         requested: Vec::new(alloc),
     }))

@@ -6,3 +6,4 @@ pub mod Asking
 pub mod Answers
 pub mod Targets
 pub mod Inside
+pub mod Laws

@@ -12,6 +12,7 @@ mod diagram;
 mod expressions;
 mod fact_constraints;
 pub mod goal_diagrams;
+pub mod laws;
 mod opening;
 mod outlook;
 mod path;

@@ -275,8 +275,8 @@ impl GivenTargets {
     }
 
     /// Returns whether a condition of so many facts is true on no target, and whether it is true on each, whichever
-    /// facts with these names and keys are set. With more than `FEW` facts, only what each fact says by itself counts.
-    /// Fails if memory is refused.
+    /// facts with these names and keys are set. With more than `FEW_FACTS` facts, only what each fact says by itself
+    /// counts. Fails if memory is refused.
     pub fn none_and_each<'x>(
         &'x self,
         alloc: Global,
@@ -294,7 +294,7 @@ impl GivenTargets {
             };
             let (can_hold, can_fail) = match decide_platform(condition, Some(row.name()), &known) {
                 Some(truth) => (truth, !truth),
-                None if facts > FEW => (true, true),
+                None if facts > FEW_FACTS => (true, true),
                 None => {
                     let left = residual_platform(alloc, condition, Some(row.name()), &known)?;
                     can_be(alloc, &left)?
@@ -334,7 +334,7 @@ impl GivenTargets {
 }
 
 /// The maximum number of facts of a condition that is searched on each target.
-const FEW: usize = 64;
+const FEW_FACTS: usize = 64;
 
 /// The maximum number of case splits in a search on one target.
 const SPLITS: u64 = 64;

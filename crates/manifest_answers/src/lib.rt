@@ -8,6 +8,7 @@ mod described;
 pub mod faults;
 pub mod given_targets;
 pub mod in_turn;
+pub mod laws;
 pub mod normalizing;
 mod opened;
 pub mod questions;

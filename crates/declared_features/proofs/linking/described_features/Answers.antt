@@ -26,13 +26,13 @@ nodes-preserved c = (
       c.in_ok-package.ensures c.nodes.invariant.2,
 )
 
-pub returns : goal.returns
-returns c node below =
+pub returns-clause-nodes : goal.returns-clause-nodes
+returns-clause-nodes c node below =
     let graph = c.args.graph.now in
     let units = graph.linked.now.packages in
-    let new = c.add_starter.new.described in
+    let new = c.add_activation_root.new.described in
     let names = c.in_ok-names.names in
-    let kept = c.in_ok-add_starter.ensures in
+    let kept = c.in_ok-add_activation_root.ensures.kept in
     let at : index_in names ≡ declared_indexes graph.declared.now =
     fun_ext (λ k. fun_ext (λ q. c.in_ok-names.ensures k q)) in
     let inside : node < c.nodes.node =
@@ -41,3 +41,12 @@ returns c node below =
     (described_grown graph c.args.requested.now (index_in names) c.nodes.packages.items new.packages.items c.nodes.edges.items
     new.edges.items
     kept.more kept.more_edges node kept.packages kept.edges (c.nodes.invariant.2 node inside))
+
+pub returns-clause-activated : goal.returns-clause-activated
+returns-clause-activated c =
+    let units = c.args.graph.now.linked.now.packages in
+    let end = c.nodes.auto.node-end in (
+      c.nodes.packages.items,
+      omega (arith, c.nodes.invariant.0, c.nodes-test.false, c.len-node-end.ensures, units.ok.0, end),
+      c.in_ok-add_activation_root.ensures.activated,
+    )
