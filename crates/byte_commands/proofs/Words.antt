@@ -5,8 +5,8 @@ use Rattle.std.specs.Prelude.{bytes_eq, if◌then◌else◌}
 use Rattle.std.proofs.lemmas.List.Concat.{flat_map-append}
 use Rattle.std.proofs.lemmas.List.{length-append}
 use Rattle.std.specs.List.{AllByRecursion}
-use Rattle.byte_commands.specs.declared.given.TheConstants.{PROGRAM, INPUT}
-use Rattle.byte_commands.specs.Given.{ended_by_nul, HasNoNul, Entry, IsEntry, entry_bytes, contents_in, input_in}
+use Rattle.byte_commands.specs.declared.call_input.TheConstants.{PROGRAM, INPUT}
+use Rattle.byte_commands.specs.CallInput.{ended_by_nul, HasNoNul, Entry, IsEntry, entry_bytes, contents_in, input_in}
 
 all_more : {X : Type 0} (P : X → Type 0) (xs : List X) (x : X) → AllByRecursion P xs → P x
     → AllByRecursion P (xs ++ x ∷ [])

@@ -6,13 +6,13 @@ ghost use Rattle.std.specs.Prelude.{◌≡◌, ◌≢◌, ◌≤◌, ℕ, List, 
 ghost use Rattle.byte_answers.specs.Outcomes.{HasNoAnswer, HasNoSpan, IsSilent, IsWritten};
 ghost use Rattle.key_answers.specs.Printing.{code_of};
 ghost use Rattle.byte_commands.specs.Answers.{IsAnswer, IsAnswerOf};
-ghost use Rattle.byte_commands.specs.Given.{AreArguments, AreFiles, contents_of};
+ghost use Rattle.byte_commands.specs.CallInput.{AreArguments, AreFiles, contents_of};
 
-mod given;
+mod call_input;
 
 use byte_answers::{DONE, NO_MEMORY, NOT_UTF8, Outcome, REFUSED, write};
-pub use given::Given;
-use given::{Misread, Part, given_by};
+pub use call_input::CallInput;
+use call_input::{Buffer, CallInputError, parse_call_input};
 use key_answers::answer::{Answer, Status};
 use memory_files::MemoryRuntime;
 use std::alloc::{AllocError, Global};
@@ -24,7 +24,7 @@ const NO_ARGUMENTS: &str = "the last argument does not end with a NUL";
 const NO_FILES: &str = "a file is not a name, a NUL, a length, a NUL and so many bytes";
 
 /// Runs the command on what is handed over.
-fn answer_on(alloc: Global, build: &str, given: &Given<'_>) -> Result<Answer, AllocError> {
+fn answer_on(alloc: Global, build: &str, given: &CallInput<'_>) -> Result<Answer, AllocError> {
     let rt = MemoryRuntime {
         alloc,
         files: &given.files,
@@ -85,16 +85,16 @@ fn joined(mut text: String, other: &str) -> Result<String, AllocError>
 }
 
 /// Returns the message about a part that does not have the form that it has to have.
-fn reason_for(part: Part) -> &'static str {
+fn reason_for(part: Buffer) -> &'static str {
     match part {
-        Part::Arguments => NO_ARGUMENTS,
-        Part::Files => NO_FILES,
+        Buffer::Arguments => NO_ARGUMENTS,
+        Buffer::Files => NO_FILES,
     }
 }
 
 /// Runs a command on what is handed over, and writes its output, and its errors after it, as `run` does for the
 /// commands of `manifest_check`.
-pub fn run_by<'a, F: FnOnce(Given<'a>) -> Result<Answer, AllocError>>(
+pub fn run_with<'a, F: FnOnce(CallInput<'a>) -> Result<Answer, AllocError>>(
     alloc: Global,
     command: F,
     arguments: &[u8],
@@ -106,7 +106,7 @@ pub fn run_by<'a, F: FnOnce(Given<'a>) -> Result<Answer, AllocError>>(
     // With `DONE`, exactly the output and the errors of an answer that the command returned are written, if the buffer
     // is long enough; `argument` is the exit status of this answer, and the errors are from `start` to `end`. The
     // command was called with the arguments, the contents of the files and the standard input in the bytes.
-    ensures done { result.code ≡ DONE → (given : Given) × ((answer : Answer)
+    ensures done { result.code ≡ DONE → (given : CallInput) × ((answer : Answer)
         × (AreArguments arguments.now (map string_bytes given.arguments.items)
         × AreFiles files.now (contents_of given.files.items) given.input.now
         × F.post command given (Ok answer) × IsAnswerOf answer result out.old out.new)) }
@@ -124,11 +124,15 @@ pub fn run_by<'a, F: FnOnce(Given<'a>) -> Result<Answer, AllocError>>(
     ensures codes { IsTrue (result.code == DONE || result.code == REFUSED || result.code == NOT_UTF8
         || result.code == NO_MEMORY) }
 {
-    let given = match given_by(alloc, arguments, files) {
+    let given = match parse_call_input(alloc, arguments, files) {
         Ok(given) => given,
-        Err(Misread::Form(part)) => return Outcome::refused(part.index(), reason_for(part), out),
-        Err(Misread::NotUtf8(part)) => return Outcome::ended(NOT_UTF8, part.index()),
-        Err(Misread::Memory) => return Outcome::ended(NO_MEMORY, 0),
+        Err(CallInputError::Form(part)) => return Outcome::refused(
+            part.index(),
+            reason_for(part),
+            out,
+        ),
+        Err(CallInputError::NotUtf8(part)) => return Outcome::ended(NOT_UTF8, part.index()),
+        Err(CallInputError::Memory) => return Outcome::ended(NO_MEMORY, 0),
     };
     match command(given) {
         Ok(answer) => written(answer, out),
@@ -165,7 +169,7 @@ pub fn run(alloc: Global, build: &str, arguments: &[u8], files: &[u8], out: &mut
     ensures codes { IsTrue (result.code == DONE || result.code == REFUSED || result.code == NOT_UTF8
         || result.code == NO_MEMORY) }
 {
-    run_by(
+    run_with(
         alloc,
         |given| answer_on(alloc, build, &given),
         arguments,

@@ -1,4 +1,4 @@
-use Rattle.byte_commands.proofs.run_by.Goals as goal
+use Rattle.byte_commands.proofs.run_with.Goals as goal
 
 pub returns-in-Ok-command-clause-done : goal.returns-in-Ok-command-clause-done
 returns-in-Ok-command-clause-done g c = λ is.

@@ -1,7 +1,7 @@
 use Rattle.std.proofs.Common.{◌≡◌, ◌∙◌, rules}
-use Rattle.byte_commands.specs.Given.{contents_of, entry_of}
+use Rattle.byte_commands.specs.CallInput.{contents_of, entry_of}
 use Rattle.byte_commands.proofs.Words.{one_file}
-use Rattle.byte_commands.proofs.given.Given.add_all.Goals as goal
+use Rattle.byte_commands.proofs.call_input.CallInput.add_all.Goals as goal
 
 pub files-preserved : goal.files-preserved
 files-preserved c =

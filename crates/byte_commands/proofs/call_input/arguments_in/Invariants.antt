@@ -1,6 +1,6 @@
 use Rattle.std.proofs.Common.{length, map, string_bytes}
 use Rattle.byte_commands.proofs.Words.{AreArgumentsTo}
-use Rattle.byte_commands.proofs.given.arguments_in.Given as goal
+use Rattle.byte_commands.proofs.call_input.arguments_in.Given as goal
 
 abbrev pub invariant-words : goal.invariant-words
 invariant-words l = AreArgumentsTo l.bytes l.left (map string_bytes l.arguments.items)

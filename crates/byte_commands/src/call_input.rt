@@ -2,7 +2,8 @@
 
 ghost use Rattle.std.specs.Prelude.{◌≡◌, ◌≤◌, ◌++◌, ◌∷◌, [], IfOk, IfSome, OnOk, map, string_bytes};
 ghost use Rattle.std.specs.Prelude.{bytes_eq, if◌then◌else◌};
-ghost use Rattle.byte_commands.specs.Given.{AreArguments, AreFiles, IsEntry, HasNoNul, contents_of, entry_bytes, entry_of};
+ghost use Rattle.byte_commands.specs.CallInput.{AreArguments, AreFiles, IsEntry, HasNoNul, contents_of, entry_bytes};
+ghost use Rattle.byte_commands.specs.CallInput.{entry_of};
 
 use memory_files::GivenFile;
 use std::alloc::{AllocError, Global};
@@ -16,26 +17,26 @@ const PROGRAM: &str = "manifest_check";
 
 /// A part of what a caller hands over.
 #[derive(Clone, Copy, Drop)]
-pub enum Part {
+pub enum Buffer {
     Arguments,
     Files,
 }
 
-impl Part {
+impl Buffer {
     /// Returns its index among the arguments of the call.
     pub fn index(self) -> u32
         ensures { result ≤ 1 }
     {
         match self {
-            Part::Arguments => 0,
-            Part::Files => 1,
+            Buffer::Arguments => 0,
+            Buffer::Files => 1,
         }
     }
 }
 
 /// What a caller hands over.
 #[derive(Drop)]
-pub struct Given<'a> {
+pub struct CallInput<'a> {
     /// The arguments, the name of the program first.
     pub arguments: Vec<String>,
     pub files: Vec<GivenFile<'a>>,
@@ -45,17 +46,17 @@ pub struct Given<'a> {
 
 /// The reason why a part is not what a caller has to hand over.
 #[derive(Drop)]
-pub enum Misread {
+pub enum CallInputError {
     /// The bytes do not have the form that is expected.
-    Form(Part),
+    Form(Buffer),
     /// A text is not UTF-8.
-    NotUtf8(Part),
+    NotUtf8(Buffer),
     Memory,
 }
 
-impl From<AllocError> for Misread {
-    fn from(_refused: AllocError) -> Misread {
-        Misread::Memory
+impl From<AllocError> for CallInputError {
+    fn from(_refused: AllocError) -> CallInputError {
+        CallInputError::Memory
     }
 }
 
@@ -86,7 +87,7 @@ fn push_text(alloc: Global, arguments: &mut Vec<String>, text: &str) -> Result<(
 }
 
 /// Returns the arguments in these bytes, each of which ends with a NUL, behind the name of the program.
-fn arguments_in(alloc: Global, bytes: &[u8]) -> Result<Vec<String>, Misread>
+fn arguments_in(alloc: Global, bytes: &[u8]) -> Result<Vec<String>, CallInputError>
     ensures { IfOk result (λ arguments. AreArguments bytes.now (map string_bytes arguments.items)) }
 {
     let mut arguments = Vec::new(alloc);
@@ -94,10 +95,10 @@ fn arguments_in(alloc: Global, bytes: &[u8]) -> Result<Vec<String>, Misread>
     let mut left = bytes;
     'words: while !left.is_empty() {
         let Some((word, others)) = divided(left) else {
-            return Err(Misread::Form(Part::Arguments));
+            return Err(CallInputError::Form(Buffer::Arguments));
         };
         let Ok(word) = str::from_utf8(word) else {
-            return Err(Misread::NotUtf8(Part::Arguments));
+            return Err(CallInputError::NotUtf8(Buffer::Arguments));
         };
         push_text(alloc, &mut arguments, word)?;
         left = others;
@@ -130,7 +131,7 @@ fn first_in(bytes: &[u8]) -> Option<First<'_>>
     })
 }
 
-impl<'a> Given<'a> {
+impl<'a> CallInput<'a> {
     /// Adds a file, or sets standard input.
     fn add(&mut self, alloc: Global, name: &str, bytes: &'a [u8]) -> Result<(), AllocError>
         ensures arguments { OnOk result (self.new.arguments ≡ self.old.arguments) }
@@ -148,7 +149,7 @@ impl<'a> Given<'a> {
     }
 
     /// Adds the files in these bytes.
-    fn add_all(&mut self, alloc: Global, bytes: &'a [u8]) -> Result<(), Misread>
+    fn add_all(&mut self, alloc: Global, bytes: &'a [u8]) -> Result<(), CallInputError>
         requires none { self.old.files.items ≡ [] }
         requires no_input { self.old.input.now ≡ [] }
         ensures arguments { OnOk result (self.new.arguments ≡ self.old.arguments) }
@@ -157,10 +158,10 @@ impl<'a> Given<'a> {
         let mut left = bytes;
         'files: while !left.is_empty() {
             let Some(first) = first_in(left) else {
-                return Err(Misread::Form(Part::Files));
+                return Err(CallInputError::Form(Buffer::Files));
             };
             let Ok(name) = str::from_utf8(first.name) else {
-                return Err(Misread::NotUtf8(Part::Files));
+                return Err(CallInputError::NotUtf8(Buffer::Files));
             };
             self.add(alloc, name, first.content)?;
             left = first.after;
@@ -170,11 +171,15 @@ impl<'a> Given<'a> {
 }
 
 /// Returns what the arguments of a call hand over.
-pub fn given_by<'a>(alloc: Global, arguments: &[u8], files: &'a [u8]) -> Result<Given<'a>, Misread>
+pub fn parse_call_input<'a>(
+    alloc: Global,
+    arguments: &[u8],
+    files: &'a [u8],
+) -> Result<CallInput<'a>, CallInputError>
     ensures arguments { IfOk result (λ given. AreArguments arguments.now (map string_bytes given.arguments.items)) }
     ensures files { IfOk result (λ given. AreFiles files.now (contents_of given.files.items) given.input.now) }
 {
-    let mut given = Given {
+    let mut given = CallInput {
         arguments: arguments_in(alloc, arguments)?,
         files: Vec::new(alloc),
         input: &[],

@@ -1,5 +1,5 @@
 use Rattle.byte_commands.proofs.Words.{one_byte}
-use Rattle.byte_commands.proofs.given.divided.Goals as goal
+use Rattle.byte_commands.proofs.call_input.divided.Goals as goal
 
 pub bytes-preserved : goal.bytes-preserved
 bytes-preserved c =

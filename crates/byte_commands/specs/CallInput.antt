@@ -1,10 +1,10 @@
 -- What a caller hands over, as bytes.
 use Rattle.std.specs.Prelude.{◌≡◌, ℕ, List, [], ◌∷◌, ◌++◌, flat_map, map, length, bytes_eq, if◌then◌else◌}
 use Rattle.memory_files.specs.declared.GivenFile.{GivenFile}
-use Rattle.byte_commands.specs.declared.given.First.{First}
+use Rattle.byte_commands.specs.declared.call_input.First.{First}
 use Rattle.std.specs.List.{AllByRecursion}
 use Rattle.std.specs.Str.Parse.{digits_value, without_leading_plus}
-use Rattle.byte_commands.specs.declared.given.TheConstants.{PROGRAM, INPUT}
+use Rattle.byte_commands.specs.declared.call_input.TheConstants.{PROGRAM, INPUT}
 
 -- a text and a NUL after it
 abbrev pub ended_by_nul : List ℕ → List ℕ

@@ -1,7 +1,7 @@
 use Rattle.std.proofs.Common.{◌≡◌, length}
-use Rattle.byte_commands.specs.Given.{contents_of}
+use Rattle.byte_commands.specs.CallInput.{contents_of}
 use Rattle.byte_commands.proofs.Words.{AreFilesTo}
-use Rattle.byte_commands.proofs.given.Given.add_all.Given as goal
+use Rattle.byte_commands.proofs.call_input.CallInput.add_all.Given as goal
 
 abbrev pub invariant-files : goal.invariant-files
 invariant-files l =
