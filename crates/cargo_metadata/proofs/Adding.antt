@@ -16,8 +16,8 @@ use Rattle.cargo_metadata.specs.Links.{HoldsWhere, AreEdgesOf}
 use Rattle.cargo_metadata.specs.Links.{IsSpelled, IsSound, Asked, asked_as, asked_by, asked_of, IsEdge, AreEach}
 use Rattle.cargo_metadata.specs.Links.{of_none, of_more}
 use Rattle.cargo_metadata.specs.Refusals.{IsRefusedBy, IsInDependency}
-use Rattle.cargo_metadata.specs.declared.graphs.edges.NoSet.{NoSet}
-use Rattle.cargo_metadata.specs.declared.graphs.edges.NoSet.TheVariants as no_set
+use Rattle.cargo_metadata.specs.declared.graphs.edges.ConditionError.{ConditionError}
+use Rattle.cargo_metadata.specs.declared.graphs.edges.ConditionError.TheVariants as no_set
 use Rattle.cargo_metadata.specs.Inside.Adding.{AddsRows, AddsKinds, AreEdgesSoFar, IsNoSet, wrong_at}
 
 -- ---- what is read at an index, at any other default
@@ -135,7 +135,8 @@ edges_all ids n j es past so_far = record {
       so_far.each;
 }
 
-pub refused_at : (ids : List (List ℕ)) (d : Written) (i : ℕ) (row : KindRow) (n : NoSet) → i < length d.kinds.items
+pub refused_at : (ids : List (List ℕ)) (d : Written) (i : ℕ) (row : KindRow) (n : ConditionError)
+    → i < length d.kinds.items
     → row ≡ get_or d.kinds.items i row → Contains ids d.on.now
     → ((k : ℕ) (r : KindRow) → k < i → IsSpelled (get_or d.kinds.items k r).condition) → IsNoSet row.condition n
     → IsInDependency ids (wrong_at i n) d

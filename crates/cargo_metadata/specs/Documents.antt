@@ -10,12 +10,12 @@ use Rattle.cargo_metadata.specs.Packages.{IsPackage}
 use Rattle.cargo_metadata.specs.Nodes.{IsNode, IsInNode}
 use Rattle.cargo_metadata.specs.declared.metadata.Metadata.{Metadata}
 use Rattle.cargo_metadata.specs.declared.refusals.Wanted.TheVariants as wanted
-use Rattle.cargo_metadata.specs.declared.refusals.InDependency.{InDependency}
-use Rattle.cargo_metadata.specs.declared.refusals.InDependency.TheVariants as in_dependency
-use Rattle.cargo_metadata.specs.declared.refusals.InNode.{InNode}
-use Rattle.cargo_metadata.specs.declared.refusals.InNode.TheVariants as in_node
-use Rattle.cargo_metadata.specs.declared.refusals.InResolve.{InResolve}
-use Rattle.cargo_metadata.specs.declared.refusals.InResolve.TheVariants as in_resolve
+use Rattle.cargo_metadata.specs.declared.refusals.DependencyError.{DependencyError}
+use Rattle.cargo_metadata.specs.declared.refusals.DependencyError.TheVariants as in_dependency
+use Rattle.cargo_metadata.specs.declared.refusals.NodeError.{NodeError}
+use Rattle.cargo_metadata.specs.declared.refusals.NodeError.TheVariants as in_node
+use Rattle.cargo_metadata.specs.declared.refusals.ResolveError.{ResolveError}
+use Rattle.cargo_metadata.specs.declared.refusals.ResolveError.TheVariants as in_resolve
 use Rattle.cargo_metadata.specs.declared.refusals.Refusal.{Refusal}
 use Rattle.cargo_metadata.specs.declared.refusals.Refusal.TheVariants as refusals
 
@@ -42,7 +42,7 @@ pub record IsMetadata (d : Data) (m : Metadata) : Type 0 where
 
 -- ---- why it is rejected: the first error
 
-abbrev pub IsInResolve : Data → InResolve → Type 0
+abbrev pub IsInResolve : Data → ResolveError → Type 0
 IsInResolve d (in_resolve.Field wrong) = IsFirstWrong fields_of_resolve d wrong
 IsInResolve d (in_resolve.Node i wrong) = IsFirstAt IsNode (λ e. IsInNode e wrong) (codes "nodes") i d
 IsInResolve d (in_resolve.Memory error) = Unit {0}
@@ -82,17 +82,17 @@ pub record IsRefused (d : Data) (refusal : Refusal) : Type 0 where
 
 -- ---- whether memory is the reason
 
-abbrev pub is_memory_of_dependency : InDependency → Bool
+abbrev pub is_memory_of_dependency : DependencyError → Bool
 is_memory_of_dependency (in_dependency.Field wrong) = false
 is_memory_of_dependency (in_dependency.Kind i wrong) = false
 is_memory_of_dependency (in_dependency.Memory error) = true
 
-abbrev pub is_memory_of_node : InNode → Bool
+abbrev pub is_memory_of_node : NodeError → Bool
 is_memory_of_node (in_node.Field wrong) = false
 is_memory_of_node (in_node.Dependency i wrong) = is_memory_of_dependency wrong
 is_memory_of_node (in_node.Memory error) = true
 
-abbrev pub is_memory_of_resolve : InResolve → Bool
+abbrev pub is_memory_of_resolve : ResolveError → Bool
 is_memory_of_resolve (in_resolve.Field wrong) = false
 is_memory_of_resolve (in_resolve.Node i wrong) = is_memory_of_node wrong
 is_memory_of_resolve (in_resolve.Memory error) = true

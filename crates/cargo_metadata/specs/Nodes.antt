@@ -10,10 +10,10 @@ use Rattle.cargo_metadata.specs.declared.nodes.Kind.{Kind}
 use Rattle.cargo_metadata.specs.declared.nodes.KindRow.{KindRow}
 use Rattle.cargo_metadata.specs.declared.nodes.Dependency.{Dependency}
 use Rattle.cargo_metadata.specs.declared.nodes.Node.{Node}
-use Rattle.cargo_metadata.specs.declared.refusals.InDependency.{InDependency}
-use Rattle.cargo_metadata.specs.declared.refusals.InDependency.TheVariants as in_dependency
-use Rattle.cargo_metadata.specs.declared.refusals.InNode.{InNode}
-use Rattle.cargo_metadata.specs.declared.refusals.InNode.TheVariants as in_node
+use Rattle.cargo_metadata.specs.declared.refusals.DependencyError.{DependencyError}
+use Rattle.cargo_metadata.specs.declared.refusals.DependencyError.TheVariants as in_dependency
+use Rattle.cargo_metadata.specs.declared.refusals.NodeError.{NodeError}
+use Rattle.cargo_metadata.specs.declared.refusals.NodeError.TheVariants as in_node
 
 abbrev pub kind_at : Data → Option Kind
 kind_at d = kind_in (get (codes "kind") d)
@@ -36,14 +36,14 @@ pub record IsNode (d : Data) (node : Node) : Type 0 where
 
 -- ---- why they are rejected: the first error
 
-abbrev pub IsInDependency : Data → InDependency → Type 0
+abbrev pub IsInDependency : Data → DependencyError → Type 0
 IsInDependency d (in_dependency.Field wrong) = IsFirstWrong fields_of_dependency d wrong
 IsInDependency d (in_dependency.Kind i wrong) =
     All (Fits d) fields_of_dependency
     × IsFirstAt IsKindRow (λ e. IsFirstWrong fields_of_kind e wrong) (codes "dep_kinds") i d
 IsInDependency d (in_dependency.Memory error) = Unit {0}
 
-abbrev pub IsInNode : Data → InNode → Type 0
+abbrev pub IsInNode : Data → NodeError → Type 0
 IsInNode d (in_node.Field wrong) = IsFirstWrong fields_of_node d wrong
 IsInNode d (in_node.Dependency i wrong) =
     All (Fits d) fields_of_node × IsFirstAt IsDependency (λ e. IsInDependency e wrong) (codes "deps") i d

@@ -10,8 +10,8 @@ use Rattle.cargo_metadata.specs.declared.nodes.Node.{Node}
 use Rattle.cargo_metadata.specs.declared.nodes.Dependency.{Dependency as Written}
 use Rattle.cargo_metadata.specs.Ids.{package_ids, node_ids, member_ids, id_at, AreDistinct, IsFirstRepeat}
 use Rattle.cargo_metadata.specs.Links.{AreNodes, AreIds, AreMembers, IsSpelled, IsSound, AreSound}
-use Rattle.cargo_metadata.specs.declared.graphs.refusals.InDependency.{InDependency}
-use Rattle.cargo_metadata.specs.declared.graphs.refusals.InDependency.TheVariants as in_dependency
+use Rattle.cargo_metadata.specs.declared.graphs.refusals.EdgeError.{EdgeError}
+use Rattle.cargo_metadata.specs.declared.graphs.refusals.EdgeError.TheVariants as in_dependency
 use Rattle.cargo_metadata.specs.declared.graphs.refusals.Refusal.{Refusal}
 use Rattle.cargo_metadata.specs.declared.graphs.refusals.Refusal.TheVariants as refusals
 
@@ -47,17 +47,17 @@ pub record HasCondition (nodes : List (List ℕ)) (i : ℕ) (e : ParseError) (d 
   pub names : Contains nodes d.on.now
   pub refused : IsFirst (λ row. IsSpelled row.condition) (λ row. IsRefusedBy e row.condition) d.kinds.items i
 
-abbrev pub IsInDependency : List (List ℕ) → InDependency → Written → Type 0
+abbrev pub IsInDependency : List (List ℕ) → EdgeError → Written → Type 0
 IsInDependency nodes in_dependency.NoNode d = Contains nodes d.on.now → ⊥
 IsInDependency nodes (in_dependency.Condition i e) d = HasCondition nodes i e d
 IsInDependency nodes (in_dependency.Memory error) d = Unit {0}
 
 -- the first dependency of a node that is not valid
-abbrev pub IsWrongAt : List (List ℕ) → ℕ → InDependency → Node → Type 0
+abbrev pub IsWrongAt : List (List ℕ) → ℕ → EdgeError → Node → Type 0
 IsWrongAt nodes j wrong n =
     IsFirst (λ d. IsSound nodes d) (λ d. IsInDependency nodes wrong d) n.dependencies.items j
 
-pub record HasDependency (m : Metadata) (i j : ℕ) (wrong : InDependency) : Type 0 where
+pub record HasDependency (m : Metadata) (i j : ℕ) (wrong : EdgeError) : Type 0 where
   pub ids : AreIds m
   pub members : AreMembers m (length m.members.items)
   pub first : IsFirst (λ n. AreSound (node_ids m.nodes.items) n)
@@ -73,7 +73,7 @@ IsUnlinked m (refusals.Memory error) = Unit {0}
 
 -- ---- whether memory is the reason
 
-abbrev pub is_memory_of_dependency : InDependency → Bool
+abbrev pub is_memory_of_dependency : EdgeError → Bool
 is_memory_of_dependency in_dependency.NoNode = false
 is_memory_of_dependency (in_dependency.Condition i e) = false
 is_memory_of_dependency (in_dependency.Memory error) = true

@@ -15,4 +15,4 @@ pub use indexes::Indexes;
 pub use metadata::{Metadata, read};
 pub use nodes::{Dependency, Kind, KindRow, Node};
 pub use packages::Package;
-pub use refusals::{InDependency, InNode, InResolve, Refusal, Wanted, Wrong};
+pub use refusals::{DependencyError, NodeError, Refusal, ResolveError, Wanted, Wrong};

@@ -13,7 +13,7 @@ ghost use Rattle.cargo_metadata.specs.Documents.{IsRefused, IsFault, IsIn};
 use crate::fields::{field_at, wanted_list};
 use crate::nodes::{Node, node_of};
 use crate::packages::{Package, package_of};
-use crate::refusals::{InResolve, Refusal, Wanted, Wrong};
+use crate::refusals::{Refusal, ResolveError, Wanted, Wrong};
 use serde_json::Value;
 use std::alloc::{AllocError, Global};
 
@@ -135,22 +135,22 @@ fn members_at<'a>(alloc: Global, document: &'a Value) -> Result<Vec<&'a str>, Re
 }
 
 /// Reads the nodes of the graph.
-fn nodes_at<'a>(alloc: Global, resolve: &'a Value) -> Result<Vec<Node<'a>>, InResolve>
+fn nodes_at<'a>(alloc: Global, resolve: &'a Value) -> Result<Vec<Node<'a>>, ResolveError>
     ensures { MatchResult result (λ ns. AreRowsAt IsNode (codes "nodes") (view resolve.now) ns.items)
         (λ refusal. IsInResolve (view resolve.now) refusal) }
 {
     let items = match wanted_list(resolve, "nodes") {
         Ok(items) => items,
-        Err(wrong) => return Err(InResolve::Field(wrong)),
+        Err(wrong) => return Err(ResolveError::Field(wrong)),
     };
     let mut nodes = Vec::new(alloc);
     'nodes: for i in 0..items.len() {
         let node = match node_of(alloc, &items[i]) {
             Ok(node) => node,
-            Err(wrong) => return Err(InResolve::Node(i, wrong)),
+            Err(wrong) => return Err(ResolveError::Node(i, wrong)),
         };
         if let Err(error) = nodes.push(node) {
-            return Err(InResolve::Memory(AllocError::from(error)));
+            return Err(ResolveError::Memory(AllocError::from(error)));
         }
     }
     Ok(nodes)

@@ -6,7 +6,7 @@ ghost use Rattle.cargo_metadata.specs.Fields.{IsFirstWrong, fields_of_kind};
 ghost use Rattle.cargo_metadata.specs.Nodes.{IsKindRow, IsDependency, IsNode, IsInDependency, IsInNode};
 
 use crate::fields::{condition_of, kind_of, text_at, wanted_list, wanted_text};
-use crate::refusals::{InDependency, InNode, Wrong};
+use crate::refusals::{DependencyError, NodeError, Wrong};
 use serde_json::Value;
 use std::alloc::{AllocError, Global};
 
@@ -52,26 +52,26 @@ fn kind_row<'a>(value: &'a Value) -> Result<KindRow<'a>, Wrong>
 }
 
 /// Reads a dependency from an object.
-fn dependency_of<'a>(alloc: Global, value: &'a Value) -> Result<Dependency<'a>, InDependency>
+fn dependency_of<'a>(alloc: Global, value: &'a Value) -> Result<Dependency<'a>, DependencyError>
     ensures { MatchResult result (λ d. IsDependency (view value.now) d)
         (λ wrong. IsInDependency (view value.now) wrong) }
 {
     let on = match wanted_text(value, "pkg") {
         Ok(text) => text,
-        Err(wrong) => return Err(InDependency::Field(wrong)),
+        Err(wrong) => return Err(DependencyError::Field(wrong)),
     };
     let items = match wanted_list(value, "dep_kinds") {
         Ok(items) => items,
-        Err(wrong) => return Err(InDependency::Field(wrong)),
+        Err(wrong) => return Err(DependencyError::Field(wrong)),
     };
     let mut kinds = Vec::new(alloc);
     'kinds: for i in 0..items.len() {
         let row = match kind_row(&items[i]) {
             Ok(row) => row,
-            Err(wrong) => return Err(InDependency::Kind(i, wrong)),
+            Err(wrong) => return Err(DependencyError::Kind(i, wrong)),
         };
         if let Err(error) = kinds.push(row) {
-            return Err(InDependency::Memory(AllocError::from(error)));
+            return Err(DependencyError::Memory(AllocError::from(error)));
         }
     }
     let name = text_at(value, "name");
@@ -79,25 +79,25 @@ fn dependency_of<'a>(alloc: Global, value: &'a Value) -> Result<Dependency<'a>, 
 }
 
 /// Reads a node from an object. Fails at the first part that is not as expected, and if an allocation fails.
-pub fn node_of<'a>(alloc: Global, value: &'a Value) -> Result<Node<'a>, InNode>
+pub fn node_of<'a>(alloc: Global, value: &'a Value) -> Result<Node<'a>, NodeError>
     ensures { MatchResult result (λ n. IsNode (view value.now) n) (λ wrong. IsInNode (view value.now) wrong) }
 {
     let id = match wanted_text(value, "id") {
         Ok(text) => text,
-        Err(wrong) => return Err(InNode::Field(wrong)),
+        Err(wrong) => return Err(NodeError::Field(wrong)),
     };
     let items = match wanted_list(value, "deps") {
         Ok(items) => items,
-        Err(wrong) => return Err(InNode::Field(wrong)),
+        Err(wrong) => return Err(NodeError::Field(wrong)),
     };
     let mut dependencies = Vec::new(alloc);
     'dependencies: for i in 0..items.len() {
         let dependency = match dependency_of(alloc, &items[i]) {
             Ok(dependency) => dependency,
-            Err(wrong) => return Err(InNode::Dependency(i, wrong)),
+            Err(wrong) => return Err(NodeError::Dependency(i, wrong)),
         };
         if let Err(error) = dependencies.push(dependency) {
-            return Err(InNode::Memory(AllocError::from(error)));
+            return Err(NodeError::Memory(AllocError::from(error)));
         }
     }
     Ok(Node { id, dependencies })

@@ -33,7 +33,7 @@ pub struct Wrong {
 
 /// The reason why a dependency is rejected.
 #[derive(Debug, Drop)]
-pub enum InDependency {
+pub enum DependencyError {
     Field(Wrong),
     /// A field of the kind at this index.
     Kind(usize, Wrong),
@@ -42,19 +42,19 @@ pub enum InDependency {
 
 /// The reason why a node is rejected.
 #[derive(Debug, Drop)]
-pub enum InNode {
+pub enum NodeError {
     Field(Wrong),
     /// The dependency at this index is rejected.
-    Dependency(usize, InDependency),
+    Dependency(usize, DependencyError),
     Memory(AllocError),
 }
 
 /// The reason why the value of `resolve` is rejected.
 #[derive(Debug, Drop)]
-pub enum InResolve {
+pub enum ResolveError {
     Field(Wrong),
     /// The node at this index is rejected.
-    Node(usize, InNode),
+    Node(usize, NodeError),
     Memory(AllocError),
 }
 
@@ -68,7 +68,7 @@ pub enum Refusal {
     /// The member of the workspace at this index is not a text.
     Member(usize),
     /// The value of `resolve` is rejected.
-    Resolve(InResolve),
+    Resolve(ResolveError),
     Memory(AllocError),
 }
 
@@ -78,21 +78,21 @@ impl Refusal {
         ensures { result ≡ is_memory self.now }
     {
         match self {
-            Refusal::Memory(_) | Refusal::Resolve(InResolve::Memory(_)) => true,
-            Refusal::Resolve(InResolve::Node(_, wrong)) => wrong.is_memory(),
+            Refusal::Memory(_) | Refusal::Resolve(ResolveError::Memory(_)) => true,
+            Refusal::Resolve(ResolveError::Node(_, wrong)) => wrong.is_memory(),
             _ => false,
         }
     }
 }
 
-impl InNode {
+impl NodeError {
     /// Returns whether an allocation failed, anywhere in the node.
     fn is_memory(&self) -> bool
         ensures { result ≡ is_memory_of_node self.now }
     {
         matches!(
             self,
-            InNode::Memory(_) | InNode::Dependency(_, InDependency::Memory(_))
+            NodeError::Memory(_) | NodeError::Dependency(_, DependencyError::Memory(_))
         )
     }
 }

@@ -1,6 +1,6 @@
 //! The messages of refusals: the path in the document, and the value that is expected there.
 
-use crate::refusals::{InDependency, InNode, InResolve, Refusal, Wanted, Wrong};
+use crate::refusals::{DependencyError, NodeError, Refusal, ResolveError, Wanted, Wrong};
 use std::fmt::{self, Display, Formatter, Write};
 
 impl Display for Wanted {
@@ -24,32 +24,32 @@ impl Display for Wrong {
     }
 }
 
-impl Display for InDependency {
+impl Display for DependencyError {
     fn fmt<W: Write>(&self, f: &mut Formatter<W>) -> fmt::Result {
         match self {
-            InDependency::Field(wrong) => write!(f, ".{wrong}"),
-            InDependency::Kind(i, wrong) => write!(f, ".dep_kinds[{i}].{wrong}"),
-            InDependency::Memory(error) => write!(f, ": {error}"),
+            DependencyError::Field(wrong) => write!(f, ".{wrong}"),
+            DependencyError::Kind(i, wrong) => write!(f, ".dep_kinds[{i}].{wrong}"),
+            DependencyError::Memory(error) => write!(f, ": {error}"),
         }
     }
 }
 
-impl Display for InNode {
+impl Display for NodeError {
     fn fmt<W: Write>(&self, f: &mut Formatter<W>) -> fmt::Result {
         match self {
-            InNode::Field(wrong) => write!(f, ".{wrong}"),
-            InNode::Dependency(i, wrong) => write!(f, ".deps[{i}]{wrong}"),
-            InNode::Memory(error) => write!(f, ": {error}"),
+            NodeError::Field(wrong) => write!(f, ".{wrong}"),
+            NodeError::Dependency(i, wrong) => write!(f, ".deps[{i}]{wrong}"),
+            NodeError::Memory(error) => write!(f, ": {error}"),
         }
     }
 }
 
-impl Display for InResolve {
+impl Display for ResolveError {
     fn fmt<W: Write>(&self, f: &mut Formatter<W>) -> fmt::Result {
         match self {
-            InResolve::Field(wrong) => write!(f, ".{wrong}"),
-            InResolve::Node(i, wrong) => write!(f, ".nodes[{i}]{wrong}"),
-            InResolve::Memory(error) => write!(f, ": {error}"),
+            ResolveError::Field(wrong) => write!(f, ".{wrong}"),
+            ResolveError::Node(i, wrong) => write!(f, ".nodes[{i}]{wrong}"),
+            ResolveError::Memory(error) => write!(f, ": {error}"),
         }
     }
 }

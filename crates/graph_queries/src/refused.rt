@@ -5,8 +5,8 @@ ghost use Rattle.cargo_metadata.specs.Documents.{is_memory};
 ghost use Rattle.cargo_metadata.specs.Refusals.{is_memory as is_memory_of_graph};
 
 use crate::lines::{push, shown};
-use cargo_metadata::graphs::{InDependency, Refusal as Unlinked};
-use cargo_metadata::{InResolve, Metadata, Refusal, Wanted};
+use cargo_metadata::graphs::{EdgeError, Refusal as Unlinked};
+use cargo_metadata::{Metadata, Refusal, ResolveError, Wanted};
 use cargo_platform::ParseError;
 use input_limits::{deep_at, deep_text};
 pub use key_answers::answer::unusable;
@@ -38,7 +38,7 @@ fn text_in<'a>(list: Option<&'a Value>, index: usize, field: &str) -> Option<&'a
 fn subject_of<'a>(document: &'a Value, refusal: &Refusal) -> Option<&'a str> {
     match refusal {
         Refusal::Package(i, _) => text_in(document.get("packages"), *i, "name"),
-        Refusal::Resolve(InResolve::Node(i, _)) => {
+        Refusal::Resolve(ResolveError::Node(i, _)) => {
             let resolve = document.get("resolve")?;
             text_in(resolve.get("nodes"), *i, "id")
         }
@@ -95,7 +95,7 @@ fn id_of<'a>(metadata: &Metadata<'a>, refusal: &Unlinked) -> Option<&'a str> {
         Unlinked::NoPackage(i) => id_of_node(metadata, *i),
         Unlinked::SameNode { again, .. } => id_of_node(metadata, *again),
         Unlinked::NoMember(i) => metadata.members.get(*i).copied(),
-        Unlinked::Dependency(i, j, InDependency::NoNode) => id_depended_on(metadata, *i, *j),
+        Unlinked::Dependency(i, j, EdgeError::NoNode) => id_depended_on(metadata, *i, *j),
         Unlinked::Dependency(i, _, _) => id_of_node(metadata, *i),
         Unlinked::Memory(_) => None,
     }
@@ -173,7 +173,7 @@ pub fn graph_reason(
     }
     let reason = format!(in alloc; "{refusal}")?;
     let mut reason = about(alloc, reason, id_of(metadata, refusal))?;
-    if let Unlinked::Dependency(i, j, InDependency::Condition(k, error)) = refusal {
+    if let Unlinked::Dependency(i, j, EdgeError::Condition(k, error)) = refusal {
         if let Some(key) = condition_at(metadata, *i, *j, *k) {
             let lines = fault_lines(alloc, key, error)?;
             push(&mut reason, lines.as_str())?;

@@ -7,16 +7,16 @@ use Rattle.cargo_metadata.specs.declared.nodes.KindRow.{KindRow}
 use Rattle.package_graphs.specs.declared.packages.Dependency.{Dependency}
 use Rattle.cargo_metadata.specs.Links.{IsSpelled, IsSound, Asked, asked_as, asked_by, asked_of, IsEdge, AreEach}
 use Rattle.cargo_metadata.specs.Refusals.{IsRefusedBy}
-use Rattle.cargo_metadata.specs.declared.graphs.edges.NoSet.{NoSet}
-use Rattle.cargo_metadata.specs.declared.graphs.edges.NoSet.TheVariants as no_set
-use Rattle.cargo_metadata.specs.declared.graphs.refusals.InDependency.{InDependency}
-use Rattle.cargo_metadata.specs.declared.graphs.refusals.InDependency.TheVariants as in_dependency
+use Rattle.cargo_metadata.specs.declared.graphs.edges.ConditionError.{ConditionError}
+use Rattle.cargo_metadata.specs.declared.graphs.edges.ConditionError.TheVariants as no_set
+use Rattle.cargo_metadata.specs.declared.graphs.refusals.EdgeError.{EdgeError}
+use Rattle.cargo_metadata.specs.declared.graphs.refusals.EdgeError.TheVariants as in_dependency
 
-abbrev pub IsNoSet : Option (Bor (List ℕ)) → NoSet → Type 0
+abbrev pub IsNoSet : Option (Bor (List ℕ)) → ConditionError → Type 0
 IsNoSet condition (no_set.Refused e) = IsRefusedBy e condition
 IsNoSet condition (no_set.Memory error) = Unit {0}
 
-abbrev pub wrong_at : ℕ → NoSet → InDependency
+abbrev pub wrong_at : ℕ → ConditionError → EdgeError
 wrong_at i (no_set.Refused e) = in_dependency.Condition i e
 wrong_at i (no_set.Memory error) = in_dependency.Memory error
 

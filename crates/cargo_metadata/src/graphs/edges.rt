@@ -6,7 +6,7 @@ ghost use Rattle.cargo_metadata.specs.Refusals.{IsInDependency, IsWrongAt};
 ghost use Rattle.cargo_metadata.specs.Indexes.{AreFound};
 ghost use Rattle.cargo_metadata.specs.Inside.Adding.{IsNoSet, wrong_at, AddsKinds};
 
-use super::refusals::InDependency;
+use super::refusals::EdgeError;
 use crate::indexes::Indexes;
 use crate::{Dependency as Written, Kind as WrittenKind, Node};
 use cargo_platform::{ParseError, Platform, ReadError};
@@ -16,13 +16,13 @@ use std::alloc::{AllocError, Global};
 
 /// The reason why a condition has no set of targets.
 #[derive(Drop)]
-pub enum NoSet {
+pub enum ConditionError {
     Refused(ParseError),
     Memory(AllocError),
 }
 
 /// Returns the targets on which a condition is true. Without a condition, these are all targets.
-fn holds_at(alloc: Global, condition: Option<&str>) -> Result<TargetSet, NoSet>
+fn holds_at(alloc: Global, condition: Option<&str>) -> Result<TargetSet, ConditionError>
     ensures { MatchResult result (λ set. HoldsWhere condition.entry set) (λ no_set. IsNoSet condition.entry no_set) }
 {
     let Some(text) = condition else {
@@ -30,12 +30,12 @@ fn holds_at(alloc: Global, condition: Option<&str>) -> Result<TargetSet, NoSet>
     };
     let platform = match Platform::from_str(alloc, text) {
         Ok(platform) => platform,
-        Err(ReadError::Parse(error)) => return Err(NoSet::Refused(error)),
-        Err(ReadError::Memory(error)) => return Err(NoSet::Memory(error)),
+        Err(ReadError::Parse(error)) => return Err(ConditionError::Refused(error)),
+        Err(ReadError::Memory(error)) => return Err(ConditionError::Memory(error)),
     };
     match matching(alloc, &platform) {
         Ok(set) => Ok(set),
-        Err(error) => Err(NoSet::Memory(error)),
+        Err(error) => Err(ConditionError::Memory(error)),
     }
 }
 
@@ -51,12 +51,12 @@ fn kind_of(kind: WrittenKind) -> Kind
 }
 
 /// Returns the error of a dependency whose condition at this index has no set of targets.
-fn wrong_at(index: usize, no_set: NoSet) -> InDependency
+fn wrong_at(index: usize, no_set: ConditionError) -> EdgeError
     ensures { result ≡ wrong_at index no_set }
 {
     match no_set {
-        NoSet::Refused(error) => InDependency::Condition(index, error),
-        NoSet::Memory(error) => InDependency::Memory(error),
+        ConditionError::Refused(error) => EdgeError::Condition(index, error),
+        ConditionError::Memory(error) => EdgeError::Memory(error),
     }
 }
 
@@ -66,13 +66,13 @@ fn add_kinds<'a>(
     nodes: &Indexes<'a>,
     written: &Written<'a>,
     edges: &mut Vec<Dependency>,
-) -> Result<(), InDependency>
+) -> Result<(), EdgeError>
     ensures { (ids : List (List ℕ)) → AreFound nodes.now ids → MatchResult result
         (λ _. AddsKinds ids written.now edges.old.items edges.new.items)
         (λ wrong. IsInDependency ids wrong written.now) }
 {
     let Some(to) = nodes.find(written.on) else {
-        return Err(InDependency::NoNode);
+        return Err(EdgeError::NoNode);
     };
     'kinds: for i in 0..written.kinds.len() {
         let row = written.kinds[i];
@@ -86,7 +86,7 @@ fn add_kinds<'a>(
             holds,
         };
         if let Err(error) = edges.push(edge) {
-            return Err(InDependency::Memory(AllocError::from(error)));
+            return Err(EdgeError::Memory(AllocError::from(error)));
         }
     }
     Ok(())
@@ -97,7 +97,7 @@ pub fn edges_of<'a>(
     alloc: Global,
     nodes: &Indexes<'a>,
     node: &Node<'a>,
-) -> Result<Vec<Dependency>, (usize, InDependency)>
+) -> Result<Vec<Dependency>, (usize, EdgeError)>
     ensures { (ids : List (List ℕ)) → AreFound nodes.now ids → MatchResult result
         (λ edges. AreEdgesOf ids node.now edges.items)
         (λ wrong. IsWrongAt ids wrong.0 wrong.1 node.now) }

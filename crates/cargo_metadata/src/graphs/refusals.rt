@@ -8,7 +8,7 @@ use std::alloc::AllocError;
 
 /// The error of a dependency.
 #[derive(Debug, Drop)]
-pub enum InDependency {
+pub enum EdgeError {
     /// No node has the id that `pkg` names.
     NoNode,
     /// The condition at this index of `dep_kinds` is rejected, with this error.
@@ -29,7 +29,7 @@ pub enum Refusal {
     /// No node has the id of the member at this index.
     NoMember(usize),
     /// The dependency at the second index, of the node at the first, has an error.
-    Dependency(usize, usize, InDependency),
+    Dependency(usize, usize, EdgeError),
     Memory(AllocError),
 }
 
@@ -40,7 +40,7 @@ impl Refusal {
     {
         matches!(
             self,
-            Refusal::Memory(_) | Refusal::Dependency(_, _, InDependency::Memory(_))
+            Refusal::Memory(_) | Refusal::Dependency(_, _, EdgeError::Memory(_))
         )
     }
 }

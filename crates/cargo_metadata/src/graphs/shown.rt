@@ -1,16 +1,14 @@
 //! The messages of refusals: the path in the document, and the error there. They contain no text of the document.
 
-use super::refusals::{InDependency, Refusal};
+use super::refusals::{EdgeError, Refusal};
 use std::fmt::{self, Display, Formatter, Write};
 
-impl Display for InDependency {
+impl Display for EdgeError {
     fn fmt<W: Write>(&self, f: &mut Formatter<W>) -> fmt::Result {
         match self {
-            InDependency::NoNode => write!(f, ".pkg: no node has this id"),
-            InDependency::Condition(i, _) => {
-                write!(f, ".dep_kinds[{i}].target: invalid condition")
-            }
-            InDependency::Memory(error) => write!(f, ": {error}"),
+            EdgeError::NoNode => write!(f, ".pkg: no node has this id"),
+            EdgeError::Condition(i, _) => { write!(f, ".dep_kinds[{i}].target: invalid condition") }
+            EdgeError::Memory(error) => write!(f, ": {error}"),
         }
     }
 }

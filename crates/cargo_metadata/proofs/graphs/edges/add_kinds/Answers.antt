@@ -1,7 +1,7 @@
 use Rattle.std.proofs.Common.{◌<◌, length, sym, subst, arith}
 use Rattle.cargo_metadata.specs.Indexes.{index_at}
 use Rattle.cargo_metadata.specs.Refusals.{IsInDependency}
-use Rattle.cargo_metadata.specs.declared.graphs.refusals.InDependency.{InDependency}
+use Rattle.cargo_metadata.specs.declared.graphs.refusals.EdgeError.{EdgeError}
 use Rattle.cargo_metadata.proofs.Indexing.{found_contains, absent}
 use Rattle.cargo_metadata.proofs.Adding.{rows_none, adds_more, adds_all, held_spelled, refused_at}
 use Rattle.cargo_metadata.proofs.graphs.edges.add_kinds.Goals as goal
@@ -19,7 +19,7 @@ returns-in-Err c ids found =
     let i = c.kinds.i in
     let row = c.index-row.result.now in
     let below : i < length d.kinds.items = omega (arith, c.kinds-test.true, c.len-i-end.ensures, d.kinds.ok.0) in
-    subst (λ (wrong : InDependency). IsInDependency ids wrong d) (sym c.wrong_at.ensures)
+    subst (λ (wrong : EdgeError). IsInDependency ids wrong d) (sym c.wrong_at.ensures)
     (refused_at ids d i row c.in-Err.no_set below c.index-row.ensures
     (found_contains (index_at c.args.nodes.now) ids d.on.now c.in-Some.to found (sym c.in-Some.ensures))
     (c.kinds.invariant ids found).spelled c.in-Err.ensures)
