@@ -44,7 +44,7 @@ pub struct CallInput<'a> {
     pub input: &'a [u8],
 }
 
-/// The reason why a part is not what a caller has to hand over.
+/// The reason why a buffer of the caller is malformed.
 #[derive(Drop)]
 pub enum CallInputError {
     /// The bytes do not have the form that is expected.

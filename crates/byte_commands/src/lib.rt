@@ -140,8 +140,8 @@ pub fn run_with<'a, F: FnOnce(CallInput<'a>) -> Result<Answer, AllocError>>(
     }
 }
 
-/// Runs a command of `manifest_check` on files that are handed over, and writes its output, and its errors after it.
-/// With `DONE`, `argument` is the exit status, and the errors are from `start` to `end` of what is written.
+/// Runs a command of `manifest_check` on files in memory, and writes its output and then its errors to `out`. With
+/// `DONE`, `argument` is the exit status, and the errors are from `start` to `end` of what is written.
 ///
 /// Each argument ends with a NUL, and the name of the program is not among them. Each file is its name, a NUL, its
 /// length in decimal digits, a NUL, and its bytes. The file `-` is standard input. A relative name begins at the root,

@@ -258,8 +258,8 @@ pub struct SharedFlags {
 }
 
 impl SharedFlags {
-    /// Reads the flags of the environment, and unless these exclude them, those of the configuration files, which have
-    /// at most `limit` bytes each, and of the variable that counts beside `build.rustflags`.
+    /// Reads the rustflags of the environment. Unless these take precedence, it reads those of the configuration files,
+    /// which have at most `limit` bytes each, and of the variable `CARGO_BUILD_RUSTFLAGS`.
     ///
     /// Fails where a file can't be used, or includes files that Cargo rejects.
     pub fn read<R: Files + Input + Env + AllocGlobal>(

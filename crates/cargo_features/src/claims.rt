@@ -51,7 +51,7 @@ pub struct Step {
     pub condition: Condition,
 }
 
-/// The claim and the condition of steps to other claims, and whether there are such steps.
+/// The claim and the condition from which steps start. If `is_there` is false, there are no steps.
 #[derive(Clone, Copy, Drop)]
 pub struct Origin {
     pub is_there: bool,

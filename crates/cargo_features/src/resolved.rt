@@ -273,8 +273,8 @@ impl Resolved {
         }
     }
 
-    /// Returns the targets on which a package uses the dependency at an index, and that leads to a package that is
-    /// built for the side `to`.
+    /// Returns the targets on which the package at `index` uses its dependency at `place` that is built for the side
+    /// `to`.
     pub fn using_to(&self, index: usize, place: usize, to: Side) -> TargetSet
         // A target is in the set exactly if the package is used there on a side, and from there the dependency is
         // followed, is on if it is optional, has a true condition, and leads to a package for the side `to`.

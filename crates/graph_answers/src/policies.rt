@@ -113,8 +113,8 @@ impl<'p> GraphNames<'p> {
     }
 }
 
-/// Returns the arguments with those that a policy with these targets and features stands for. Targets, dependency kinds
-/// and features of the command line replace those of the policy.
+/// Returns the arguments, with the targets, dependency kinds and features of the policy where the command line sets
+/// none.
 pub fn arguments_by_policy<'p>(
     arguments: &GraphArguments<'p>,
     targets: &'p [&'p str],

@@ -17,7 +17,7 @@ pub struct FileChange<'a> {
     pub limit: u64,
 }
 
-/// The reason why a file is not written that is not what was read.
+/// The error for a file that has changed since it was read.
 pub const CHANGED: &str = "the file has changed since it was read";
 
 /// The maximum number of names that are tried for a new file beside another one.

@@ -295,9 +295,8 @@ fn lacks_as_many(manifest: &Table, fixed: &Table, removed: usize) -> bool
     after + removed as u128 == before
 }
 
-/// Returns whether a fixed manifest is the same but for new names of its tables, of the keys of `target`, and of the
-/// tables below these, and lacks as many entries of lists of allowed lints as `removed` says. Fails if memory is
-/// refused.
+/// Returns whether `fixed` differs from `manifest` only by new names of its tables, of the keys of `target` and of the
+/// tables below these, and by `removed` entries that are missing in lists of allowed lints. Fails if memory is refused.
 pub fn is_same_manifest(
     alloc: Global,
     manifest: &Table,

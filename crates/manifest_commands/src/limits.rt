@@ -13,7 +13,7 @@ pub fn limit_of(matches: &ArgMatches<'_>) -> u64 {
     matches.get_one::<u64>("limit").unwrap_or(LIMIT)
 }
 
-/// Returns the reason in a message: what follows the name of the file, if it begins with that, and `error: `.
+/// Returns a message without `FILE: ` and `error: ` at its beginning, and without the line end.
 pub fn reason_in<'a>(message: &'a str, file: &str) -> &'a str {
     let message = message.strip_suffix("\n").unwrap_or(message);
     let behind = message.strip_prefix(file).unwrap_or(message);

@@ -189,7 +189,7 @@ fn is_same_rule(first: &Rule, second: &Rule) -> bool {
         && first.key == second.key
 }
 
-/// Returns whether a rule allows something that no diagnostic needs.
+/// Returns whether the rule is an `allow` that suppresses no diagnostic.
 pub fn is_unneeded(rule: &Rule, is_needed: bool) -> bool {
     rule.setting == Setting::Allow && !is_needed
 }

@@ -50,8 +50,9 @@ fn other_member(alloc: Global, name: &str) -> Result<String, AllocError> {
     format!(in alloc; "{shown} is not a table of dependencies")
 }
 
-/// Returns for each member of a key's value that is not read which dependency table may be meant, where that is known.
-/// Fails if memory is refused.
+/// Suggests a dependency table for each member of a key's value that Cargo ignores, where one is likely. Fails if
+/// memory
+/// is refused.
 pub fn meant_tables(alloc: Global, value: &Value) -> Result<Vec<String>, AllocError> {
     let mut helps = Vec::new(alloc);
     let Some(table) = value.as_table() else {
