@@ -51,8 +51,7 @@ fn other_member(alloc: Global, name: &str) -> Result<String, AllocError> {
 }
 
 /// Suggests a dependency table for each member of a key's value that Cargo ignores, where one is likely. Fails if
-/// memory
-/// is refused.
+/// memory is refused.
 pub fn meant_tables(alloc: Global, value: &Value) -> Result<Vec<String>, AllocError> {
     let mut helps = Vec::new(alloc);
     let Some(table) = value.as_table() else {

@@ -15,8 +15,8 @@ use crate::suggestions::KnownFacts;
 use cargo_platform::Platform;
 use std::alloc::{AllocError, Global};
 
-/// Returns the diagnostics on a condition outside a manifest that need no search over sets of facts, in the order of the
-/// lints: a name that no known target has, something that is taken for a fact of rustc's, and something that only
+/// Returns the diagnostics on a condition outside a manifest that need no search over sets of facts, in the order of
+/// the lints: a name that no known target has, something that is taken for a fact of rustc's, and something that only
 /// `--cfg` or unstable features set. Fails if memory is refused.
 pub fn lint_condition(
     alloc: Global,
