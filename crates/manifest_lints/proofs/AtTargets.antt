@@ -32,7 +32,7 @@ use Rattle.exact_answers.specs.declared.fact_constraints.FactConstraints.{FactCo
 use Rattle.exact_answers.specs.Asking.{asks, some_asks}
 use Rattle.exact_answers.specs.Possible.{IsAllowed}
 use Rattle.exact_answers.proofs.Pairs as pairs
-use Rattle.manifest_lints.specs.declared.at_targets.TheConstants.{MANY, SPLITS_AT}
+use Rattle.manifest_lints.specs.declared.at_targets.TheConstants.{MAX_OPEN_NAMES, MAX_SPLITS_PER_TARGET}
 use Rattle.manifest_lints.specs.declared.deciding.TheConstants.{FEW}
 use Rattle.manifest_lints.specs.declared.deciding.Decided.{Decided}
 use Rattle.manifest_lints.specs.declared.deciding.Decided.TheVariants as decided
@@ -211,7 +211,7 @@ as_true_merged s t e =
 -- ---- over any set of facts
 
 pub free_never : (known : FactConstraints) (c : Condition) {E : Type 0} (r : Result Decided E) → KnowsNothing known
-    → IfOk r (λ d. SaysNever d known c) → IfOk r (λ d. IsTrue (is_unknown d) → NeedsMoreFor known c SPLITS_AT)
+    → IfOk r (λ d. SaysNever d known c) → IfOk r (λ d. IsTrue (is_unknown d) → NeedsMoreFor known c MAX_SPLITS_PER_TARGET)
     → IfOk r (λ d. SaysNeverFree true d c)
 free_never known c (Ok decided.Yes) nothing says more =
     λ name s holds. says name s (all_allowed known nothing s) holds
@@ -220,7 +220,7 @@ free_never known c (Ok decided.Unknown) nothing says more = (known, (nothing, mo
 free_never known c (Err e) nothing says more = tt
 
 pub free_always : (known : FactConstraints) (c : Condition) {E : Type 0} (r : Result Decided E) → KnowsNothing known
-    → IfOk r (λ d. SaysAlways d known c) → IfOk r (λ d. IsTrue (is_unknown d) → NeedsMoreFor known c SPLITS_AT)
+    → IfOk r (λ d. SaysAlways d known c) → IfOk r (λ d. IsTrue (is_unknown d) → NeedsMoreFor known c MAX_SPLITS_PER_TARGET)
     → IfOk r (λ d. SaysNeverFree false d c)
 free_always known c (Ok decided.Yes) nothing says more =
     λ name s fails. fails (says name s (all_allowed known nothing s))
@@ -406,10 +406,10 @@ module _ (truth : Bool) (facts : ℕ) (open_keys : List (List ℕ)) (c : Conditi
   settles_few (Err e) inside may = tt
 
 -- nothing is said where too many names and keys are open
-pub settles_none : (truth : Bool) (facts : ℕ) (ts : List (Bor (List ℕ))) (c : Condition) → MANY < length ts
+pub settles_none : (truth : Bool) (facts : ℕ) (ts : List (Bor (List ℕ))) (c : Condition) → MAX_OPEN_NAMES < length ts
     → SettlesOn truth facts (names_of ts) c false
 settles_none truth facts ts c h =
-    let many : MANY < length (names_of ts) = subst (λ n. MANY < n) (sym (length-map ts (λ t. t.now))) h in
+    let many : MAX_OPEN_NAMES < length (names_of ts) = subst (λ n. MAX_OPEN_NAMES < n) (sym (length-map ts (λ t. t.now))) h in
     record {
       right = λ yes. absurd (true≢false (sym yes));
       by_facts = λ few all. absurd (let never : ⊥ = omega (arith, few, many) in never);

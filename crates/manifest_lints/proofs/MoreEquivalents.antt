@@ -13,7 +13,7 @@ use Rattle.cargo_platform.specs.Platforms.{IsConditionText}
 use Rattle.exact_answers.specs.Asking.{NeedsMore}
 use Rattle.exact_answers.specs.Targets.{asked_trees}
 use Rattle.exact_answers.specs.declared.fact_constraints.FactConstraints.{FactConstraints}
-use Rattle.manifest_lints.specs.declared.deciding.TheConstants.{LEVELS}
+use Rattle.manifest_lints.specs.declared.deciding.TheConstants.{MAX_NESTING}
 use Rattle.manifest_lints.specs.declared.earlier.Keys.{Keys}
 use Rattle.manifest_lints.specs.Earlier.{AddsMember, AreEquivalent, HasEquivalentMember, MayBeUndecided}
 use Rattle.manifest_lints.specs.Truths.{budget_of}
@@ -107,7 +107,7 @@ module _ (k : FactConstraints) (es : List Entry) (old : Keys) (c : Condition) (b
   -- why it is not known how a key stands to these
   pub open_beside : (ds : List DeclaredEntry) (text : List ℕ) (budget : Option ℕ) (decides much undecided : Bool)
       (n : ℕ)
-      → MatchOption budget ((decides ≡ true) ⊎ (IsTrue much ⊎ IsNestedBeyond text LEVELS))
+      → MatchOption budget ((decides ≡ true) ⊎ (IsTrue much ⊎ IsNestedBeyond text MAX_NESTING))
       (λ splits. splits ≡ budget_of n)
       → (IsTrue much → AreTooLong es text) → n ≡ length (classified_in ds c) → (IsTrue undecided
       → MayBeUndecided k budget old c)

@@ -26,7 +26,7 @@ use Rattle.exact_answers.specs.declared.fact_constraints.FactConstraints.{FactCo
 use Rattle.manifest_lints.specs.declared.earlier.Class.{Class}
 use Rattle.manifest_lints.specs.declared.earlier.Keys.{Keys}
 use Rattle.manifest_lints.specs.declared.earlier.Earlier.{Earlier}
-use Rattle.manifest_lints.specs.declared.earlier.TheConstants.{MOST}
+use Rattle.manifest_lints.specs.declared.earlier.TheConstants.{MAX_COMPARED_KEYS}
 use Rattle.manifest_lints.specs.Earlier.{AreEquivalent, HasEquivalentMember, MayBeUndecided}
 use Rattle.manifest_lints.specs.Earlier.{equivalent_place, is_undecided, Member, IsMemberAt}
 use Rattle.manifest_lints.specs.Earlier.{NoneIsEquivalent, class_cmp, places_in, places_of, noted, NotesBy}
@@ -138,7 +138,7 @@ undecided_too : (k : FactConstraints) (budget : Option ℕ) (new old : Keys) (c 
 undecided_too k None new old c same h = tt
 undecided_too k (Some splits) new old c same h =
     subst (λ (ms : List (ℕ × Bor Platform)). Any (λ (m : ℕ × Bor Platform).
-    NeedsMore k (asked_trees (condition_of m.1.now ∷ c ∷ [])) splits) ms ⊎ (MOST < length ms)) same h
+    NeedsMore k (asked_trees (condition_of m.1.now ∷ c ∷ [])) splits) ms ⊎ (MAX_COMPARED_KEYS < length ms)) same h
 
 pub same_undecided : {E : Type 0} (k : FactConstraints) (budget : Option ℕ) (new old : Keys) (c : Condition)
     (r : Result Earlier E) → new.members.items ≡ old.members.items

@@ -11,7 +11,7 @@ use Rattle.known_targets.specs.Sets.{is_member}
 use Rattle.known_targets.specs.Table.{target_name, target_facts}
 use Rattle.known_targets.specs.declared.table.TheConstants.{COUNT}
 use Rattle.known_targets.specs.declared.target_set.TargetSet.{TargetSet}
-use Rattle.manifest_lints.specs.declared.at_targets.TheConstants.{MANY, SPLITS_AT}
+use Rattle.manifest_lints.specs.declared.at_targets.TheConstants.{MAX_OPEN_NAMES, MAX_SPLITS_PER_TARGET}
 use Rattle.manifest_lints.specs.declared.deciding.TheConstants.{FEW}
 use Rattle.manifest_lints.specs.declared.deciding.Decided.{Decided}
 use Rattle.manifest_lints.specs.declared.deciding.Decided.TheVariants as decided
@@ -32,7 +32,7 @@ pub record KnowsNothing (k : FactConstraints) : Type 0 where
 
 -- the case splits on one target are too few for the condition
 abbrev pub NeedsMoreFree : Condition → Type 0
-NeedsMoreFree c = (known : FactConstraints) × (KnowsNothing known × NeedsMore known (asked_trees (c ∷ [])) SPLITS_AT)
+NeedsMoreFree c = (known : FactConstraints) × (KnowsNothing known × NeedsMore known (asked_trees (c ∷ [])) MAX_SPLITS_PER_TARGET)
 
 -- the meaning of the answers to whether it never has this truth value
 abbrev pub SaysNeverFree : Bool → Decided → Condition → Type 0
@@ -93,12 +93,12 @@ IsNeverByFacts false open_keys c =
 -- splits are too few; too many names and keys are open; or the condition has too many facts
 pub data MayBeOn (truth : Bool) (facts : ℕ) (open_keys : List (List ℕ)) (c : Condition) : Type 0 where
   at_target : (k : ℕ) → k < COUNT → MayBeAt truth open_keys c k → MayBeOn truth facts open_keys c
-  many_open : MANY < length open_keys → MayBeOn truth facts open_keys c
+  many_open : MAX_OPEN_NAMES < length open_keys → MayBeOn truth facts open_keys c
   many_facts : FEW < facts → MayBeOn truth facts open_keys c
 
 -- an answer to whether a condition of so many facts never has this truth value on a known target is right; it is given
 -- where each fact says so by itself, and where none is given there is a reason
 pub record SettlesOn (truth : Bool) (facts : ℕ) (open_keys : List (List ℕ)) (c : Condition) (b : Bool) : Type 0 where
   pub right : IsTrue b → IsNeverOn truth open_keys c
-  pub by_facts : length open_keys ≤ MANY → IsNeverByFacts truth open_keys c → IsTrue b
+  pub by_facts : length open_keys ≤ MAX_OPEN_NAMES → IsNeverByFacts truth open_keys c → IsTrue b
   pub missed : b ≡ false → MayBeOn truth facts open_keys c

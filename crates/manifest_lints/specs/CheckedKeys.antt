@@ -7,7 +7,7 @@ use Rattle.predicate_classes.specs.Classes.{classified_in, open_in}
 use Rattle.manifest_lints_findings.specs.declared.codes.Code.TheVariants as code
 use Rattle.manifest_lints_findings.specs.Codes.{CodeSet}
 use Rattle.manifest_lints_findings.specs.Known.{holds_alone}
-use Rattle.manifest_lints.specs.declared.at_targets.TheConstants.{MANY}
+use Rattle.manifest_lints.specs.declared.at_targets.TheConstants.{MAX_OPEN_NAMES}
 use Rattle.manifest_lints.specs.Truths.{IsNever, IsAlways, CanHold, CanFail}
 use Rattle.manifest_lints.specs.Earlier.{is_same, is_equivalent}
 use Rattle.manifest_lints.specs.declared.checked_keys.Answers.{Answers}
@@ -20,7 +20,7 @@ pub record AnswersFor (k : FactConstraints) (ds : List DeclaredEntry) (c : Condi
   pub always : Settles a.is_open a.always (IsAlways k c) (CanFail k c)
   pub nowhere : SettlesPlaces true ds c a.nowhere
   pub everywhere : SettlesPlaces false ds c a.everywhere
-  pub many : MANY < length (open_in (classified_in ds c)) → IsTrue a.is_open
+  pub many : MAX_OPEN_NAMES < length (open_in (classified_in ds c)) → IsTrue a.is_open
 
 -- the lints that apply to a key: by its answers, and by the key itself
 abbrev pub applicable_codes : CheckedKey → CodeSet

@@ -19,7 +19,7 @@ use Rattle.manifest_lints.specs.declared.earlier.Keys.{Keys}
 use Rattle.manifest_lints.specs.declared.earlier.Class.{Class}
 use Rattle.manifest_lints.specs.declared.earlier.Part.TheVariants as parts
 use Rattle.manifest_lints.specs.contracts.earlier.ClassOrd.TheImpl as class_ord
-use Rattle.manifest_lints.specs.declared.earlier.TheConstants.{MOST}
+use Rattle.manifest_lints.specs.declared.earlier.TheConstants.{MAX_COMPARED_KEYS}
 
 abbrev pub is_same : Earlier → Bool
 is_same (earlier.Same first) = true
@@ -88,7 +88,7 @@ abbrev pub MayBeUndecided : FactConstraints → Option ℕ → Keys → Conditio
 MayBeUndecided k None keys c = Unit {0}
 MayBeUndecided k (Some splits) keys c =
     Any (λ m. NeedsMore k (asked_trees (condition_of m.1.now ∷ c ∷ [])) splits) keys.members.items
-    ⊎ (MOST < length keys.members.items)
+    ⊎ (MAX_COMPARED_KEYS < length keys.members.items)
 
 -- the result beside the members: none is the same, one is equivalent, or that is not known
 abbrev pub TellsNoSame : Earlier → Type 0

@@ -32,9 +32,9 @@ use Rattle.manifest_lints_findings.specs.NoTables.{is_no_table}
 use Rattle.manifest_lints_findings.specs.Shown.{IsMended, IsShownOn}
 use Rattle.manifest_lints_findings.specs.Spells.{SpellsNothing, IsRead, entry_read}
 pub use Rattle.manifest_lints.specs.Rustcs.{IsRustcs, AllowsRustcs}
-use Rattle.manifest_lints.specs.declared.deciding.TheConstants.{LEVELS}
-use Rattle.manifest_lints.specs.declared.at_targets.TheConstants.{MANY}
-use Rattle.manifest_lints.specs.declared.earlier.TheConstants.{MOST, WORK}
+use Rattle.manifest_lints.specs.declared.deciding.TheConstants.{MAX_NESTING}
+use Rattle.manifest_lints.specs.declared.at_targets.TheConstants.{MAX_OPEN_NAMES}
+use Rattle.manifest_lints.specs.declared.earlier.TheConstants.{MAX_COMPARED_KEYS, MAX_COMPARISON_WORK}
 use Rattle.manifest_lints.specs.declared.earlier.Earlier.{Earlier}
 use Rattle.manifest_lints.specs.declared.earlier.Earlier.TheVariants.{Unlike}
 use Rattle.manifest_lints.specs.AtTargets.{SettlesOn}
@@ -64,18 +64,18 @@ bytes_of es = sum_by (λ e. length e.0) es
 
 -- the keys before one with this text are too many to be compared, for as many bytes as they all have
 abbrev pub AreTooLong : List Entry → List ℕ → Type 0
-AreTooLong es text = WORK < length es * (bytes_of es + length text)
+AreTooLong es text = MAX_COMPARISON_WORK < length es * (bytes_of es + length text)
 
 -- the reason why something may be left open about a key after others that is a condition: too many parentheses are
 -- nested, or too many names and keys are open; there are too few case splits for the condition, or for comparing it
 -- with that of a key before it; or there are too many keys before it, or too many for so many bytes
 pub data MayBeOpen (k : FactConstraints) (ds : List DeclaredEntry) (es : List Entry) (text : List ℕ) (c : Condition) : Type 0
   where
-    too_deep : IsNestedBeyond text LEVELS → MayBeOpen k ds es text c
-    many_open : MANY < length (open_in (classified_in ds c)) → MayBeOpen k ds es text c
+    too_deep : IsNestedBeyond text MAX_NESTING → MayBeOpen k ds es text c
+    many_open : MAX_OPEN_NAMES < length (open_in (classified_in ds c)) → MayBeOpen k ds es text c
     few_splits : NeedsMoreFor k c (budget_in ds c) → MayBeOpen k ds es text c
     few_beside : HasOne (λ d. NeedsMore k (asked_trees (d ∷ c ∷ [])) (budget_in ds c)) es → MayBeOpen k ds es text c
-    many_before : MOST < length es → MayBeOpen k ds es text c
+    many_before : MAX_COMPARED_KEYS < length es → MayBeOpen k ds es text c
     long_before : AreTooLong es text → MayBeOpen k ds es text c
 
 -- whether a lint applies to a key after others that is a condition, about which something is left open or not, given
@@ -113,7 +113,7 @@ pub record IsFoundSpelled (k : FactConstraints) (ds : List DeclaredEntry) (es : 
   pub named : NamesRightly k es condition earlier
   pub none_missed : codes code.Equivalent ≡ false → is_open ≡ false → MissesNone k es ns condition
   pub left_open : IsTrue is_open → MayBeOpen k ds es e.0 condition
-  pub many : MANY < length (open_in (classified_in ds condition)) → IsTrue is_open
+  pub many : MAX_OPEN_NAMES < length (open_in (classified_in ds condition)) → IsTrue is_open
 
 pub record IsFoundUnspelled (e : Entry) (codes : CodeSet) (earlier : Earlier) (is_open : Bool) : Type 0 where
   pub nothing : SpellsNothing e.0

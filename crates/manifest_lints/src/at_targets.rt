@@ -17,10 +17,10 @@ use std::alloc::{AllocError, Global};
 
 /// The maximum number of open names and keys of a condition for which it is decided whether it is true on no or every
 /// known target.
-pub const MANY: usize = 4096;
+pub const MAX_OPEN_NAMES: usize = 4096;
 
 /// The maximum number of case splits in a search on one target.
-pub const SPLITS_AT: u64 = 64;
+pub const MAX_SPLITS_PER_TARGET: u64 = 64;
 
 /// Decides whether a condition never has this truth value, of which nothing is known.
 fn never_free<'a>(
@@ -32,9 +32,9 @@ fn never_free<'a>(
     ensures { KnowsNothing known.now → IfOk result (λ d. SaysNeverFree truth d (condition_of platform.now)) }
 {
     if truth {
-        is_never(alloc, platform, known, SPLITS_AT)
+        is_never(alloc, platform, known, MAX_SPLITS_PER_TARGET)
     } else {
-        is_always(alloc, platform, known, SPLITS_AT)
+        is_always(alloc, platform, known, MAX_SPLITS_PER_TARGET)
     }
 }
 
@@ -119,7 +119,7 @@ fn is_everywhere<'a>(
 }
 
 /// Returns whether a condition of so many facts is true on no known target, and whether it is true on every known
-/// target, whichever facts with these names and keys are set. Both are `false` if there are more than `MANY` names and
+/// target, whichever facts with these names and keys are set. Both are `false` if there are more than `MAX_OPEN_NAMES` names and
 /// keys. With more than `FEW` facts, only what each fact says by itself counts. Fails if memory is refused.
 #[tactic(auto, using(crate::proofs::AtTargets::settles_none))]
 pub fn nowhere_and_everywhere<'a>(
@@ -133,7 +133,7 @@ pub fn nowhere_and_everywhere<'a>(
     ensures everywhere { IfOk result
         (λ h. SettlesOn false facts (names_of open_keys.now) (condition_of platform.now) h.1) }
 {
-    if open_keys.len() > MANY {
+    if open_keys.len() > MAX_OPEN_NAMES {
         return Ok((false, false));
     }
     let nowhere = is_nowhere(alloc, platform, open_keys, facts)?;

@@ -14,14 +14,14 @@ ghost use Rattle.manifest_lints.specs.Earlier.{same_place, equivalent_place, is_
 ghost use Rattle.manifest_lints.specs.Truths.{budget_of};
 ghost use Rattle.manifest_lints.specs.Rustcs.{AllowsRustcs};
 ghost use Rattle.manifest_lints.specs.Classes.{AreClassed, TellsNoneEquivalent};
-ghost use Rattle.manifest_lints.specs.declared.at_targets.TheConstants.{MANY};
-ghost use Rattle.manifest_lints.specs.declared.deciding.TheConstants.{LEVELS};
+ghost use Rattle.manifest_lints.specs.declared.at_targets.TheConstants.{MAX_OPEN_NAMES};
+ghost use Rattle.manifest_lints.specs.declared.deciding.TheConstants.{MAX_NESTING};
 ghost use Rattle.manifest_lints.specs.CheckedKeys.{applicable_codes, AnswersFor};
 ghost use Rattle.manifest_lints.specs.Missed.{AreCovered};
 ghost use Rattle.manifest_lints.specs.Reports.{IsFound, MayBeOpen, AreTooLong, left_open};
 ghost use Rattle.manifest_lints.specs.Sames.{AreNoted, AreMembers};
 
-use crate::at_targets::{MANY, nowhere_and_everywhere};
+use crate::at_targets::{MAX_OPEN_NAMES, nowhere_and_everywhere};
 use crate::deciding::{budget_for, either, may_search, never_and_always};
 use crate::earlier::{Earlier, Keys};
 use cargo_platform::Platform;
@@ -145,17 +145,17 @@ fn answers_alone<'a>(
     })
 }
 
-/// Returns whether there are more than `MANY` open names and keys.
+/// Returns whether there are more than `MAX_OPEN_NAMES` open names and keys.
 fn are_many(open: &[&str]) -> bool
-    ensures { IsTrue result ↔ (MANY < length open.now) }
+    ensures { IsTrue result ↔ (MAX_OPEN_NAMES < length open.now) }
 {
-    open.len() > MANY
+    open.len() > MAX_OPEN_NAMES
 }
 
 /// Returns the maximum number of case splits for comparing a key with another one, or `None` if they are not compared.
 fn budget_beside(key: &KnownKey<'_>, decides: bool, is_too_much: bool) -> Option<u64>
     ensures { MatchOption result
-        ((decides ≡ true) ⊎ (IsTrue is_too_much ⊎ IsNestedBeyond key.now.read.now.text.now LEVELS))
+        ((decides ≡ true) ⊎ (IsTrue is_too_much ⊎ IsNestedBeyond key.now.read.now.text.now MAX_NESTING))
         (λ splits. splits ≡ budget_of (length key.now.predicates.items)) }
 {
     if decides {

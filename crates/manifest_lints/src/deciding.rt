@@ -21,7 +21,7 @@ pub const FEW: usize = 64;
 
 /// The maximum number of group members, nested in one another and each followed by others, of a condition that is
 /// searched over sets of facts. The stack has no room for more.
-pub const LEVELS: usize = 20_000;
+pub const MAX_NESTING: usize = 20_000;
 
 /// The answer to a question about a condition.
 #[derive(Clone, Copy, Debug, PartialEq, Eq, Drop)]
@@ -52,14 +52,14 @@ fn is_unknown(decided: Decided) -> bool
 }
 
 /// Returns whether the condition of a key may be searched over every set of facts. Returns `false` only if more than
-/// `LEVELS` parentheses of the key are nested in one another. `levels` is the number of levels of the condition.
+/// `MAX_NESTING` parentheses of the key are nested in one another. `levels` is the number of levels of the condition.
 pub fn may_search(levels: usize, key: &str) -> bool
-    ensures { result ≡ false → IsNestedBeyond key.now LEVELS }
+    ensures { result ≡ false → IsNestedBeyond key.now MAX_NESTING }
 {
-    if levels <= LEVELS {
+    if levels <= MAX_NESTING {
         return true;
     }
-    match nesting_beyond(key, LEVELS) {
+    match nesting_beyond(key, MAX_NESTING) {
         Some(_) => false,
         None => true,
     }
@@ -75,8 +75,8 @@ pub fn budget_for(facts: usize) -> u64
     (SPLITS * 64 / (facts as u64)).max(8)
 }
 
-/// Decides whether a condition is true for no possible target. If that takes too many case splits, some sets of facts
-/// are tried. Fails if memory is refused.
+/// Decides whether a condition is true for no possible target. Some sets of facts are tried first, which takes less
+/// than a search. Fails if memory is refused.
 pub fn is_never<'a>(
     alloc: Global,
     platform: &'a Platform,
@@ -87,15 +87,19 @@ pub fn is_never<'a>(
     ensures unknown { IfOk result
         (λ d. IsTrue (is_unknown d) → NeedsMoreFor known.now (condition_of platform.now) budget) }
 {
+    let shown = unless_shown(alloc, platform, known, true)?;
+    if !is_unknown(shown) {
+        return Ok(shown);
+    }
     match can_hold_platform(alloc, platform, known, budget)? {
         CanSelect::No => Ok(Decided::Yes),
         CanSelect::Yes(_) => Ok(Decided::No),
-        CanSelect::Undecided => unless_shown(alloc, platform, known, true),
+        CanSelect::Undecided => Ok(Decided::Unknown),
     }
 }
 
-/// Decides whether a condition is true for each possible target. If that takes too many case splits, some sets of facts
-/// are tried. Fails if memory is refused.
+/// Decides whether a condition is true for each possible target. Some sets of facts are tried first, which takes less
+/// than a search. Fails if memory is refused.
 pub fn is_always<'a>(
     alloc: Global,
     platform: &'a Platform,
@@ -106,10 +110,14 @@ pub fn is_always<'a>(
     ensures unknown { IfOk result
         (λ d. IsTrue (is_unknown d) → NeedsMoreFor known.now (condition_of platform.now) budget) }
 {
+    let shown = unless_shown(alloc, platform, known, false)?;
+    if !is_unknown(shown) {
+        return Ok(shown);
+    }
     match always_platform(alloc, platform, known, budget)? {
         MustSelect::Yes => Ok(Decided::Yes),
         MustSelect::No(_) => Ok(Decided::No),
-        MustSelect::Undecided => unless_shown(alloc, platform, known, false),
+        MustSelect::Undecided => Ok(Decided::Unknown),
     }
 }
 

@@ -20,18 +20,18 @@ use std::alloc::{AllocError, Global};
 use std::collections::BTreeMap;
 
 /// The maximum number of keys of its class that a key is compared with.
-pub const MOST: usize = 64;
+pub const MAX_COMPARED_KEYS: usize = 64;
 
 /// The maximum product of the number of keys before a key and the bytes of them and the key, for which the key is
 /// compared with others. So all comparisons together read a bounded number of bytes. Real manifests stay far below it.
-pub const WORK: usize = 1_048_576;
+pub const MAX_COMPARISON_WORK: usize = 1_048_576;
 
 /// Returns whether a key is not compared with the `count` keys before it, because there are too many of them for so
 /// many bytes.
 pub fn is_too_much(count: usize, bytes: usize) -> bool
-    ensures { IsTrue result → WORK < count * bytes }
+    ensures { IsTrue result → MAX_COMPARISON_WORK < count * bytes }
 {
-    count.saturating_mul(bytes) > WORK
+    count.saturating_mul(bytes) > MAX_COMPARISON_WORK
 }
 
 /// The relation of a key to the earlier ones.
@@ -288,7 +288,7 @@ impl<'a> Keys<'a> {
         };
         let mut compared: usize = 0;
         'places: for place in places {
-            if compared == MOST && self.members.len() > MOST {
+            if compared == MAX_COMPARED_KEYS && self.members.len() > MAX_COMPARED_KEYS {
                 return Ok(Earlier::Undecided);
             }
             compared = compared.saturating_add(1);

@@ -7,7 +7,7 @@ use Rattle.predicate_classes.specs.declared.key_predicates.KeyPredicate.{KeyPred
 use Rattle.manifests.specs.Declarations.{declarations_of}
 use Rattle.predicate_classes.specs.Classes.{open_in, classified_by, classified_of, classified_in}
 use Rattle.manifest_lints_findings.specs.Known.{classified_of_spelled}
-use Rattle.manifest_lints.specs.declared.at_targets.TheConstants.{MANY}
+use Rattle.manifest_lints.specs.declared.at_targets.TheConstants.{MAX_OPEN_NAMES}
 use Rattle.manifest_lints.specs.Truths.{NeedsMoreFor, budget_of}
 use Rattle.manifest_lints.specs.AtTargets.{SettlesOn}
 use Rattle.manifest_lints.specs.Reports.{too_deep, many_open, few_splits}
@@ -48,7 +48,7 @@ returns-clause-alone c = λ known is.
           (subst (λ ns. SettlesOn false c.len.result ns p c.in_ok-nowhere.everywhere) names places.everywhere);
       many = λ is. c.either.ensures
           ∙ right_or _ _ (c.are_many.ensures.1
-          (subst (λ n. MANY < n) (as_many c.deref-3.result.now (open_in (classified_in ds p)) names_too) is));
+          (subst (λ n. MAX_OPEN_NAMES < n) (as_many c.deref-3.result.now (open_in (classified_in ds p)) names_too) is));
     }
 
 pub returns-clause-left_open : goal.returns-clause-left_open
@@ -72,6 +72,6 @@ returns-clause-left_open c = λ known is es holds.
                 long)) more)
           ]
       | inr many ↦
-          many_open (subst (λ n. MANY < n)
+          many_open (subst (λ n. MAX_OPEN_NAMES < n)
           (sym (as_many c.deref-3.result.now (open_in (classified_in ds p)) names)) (c.are_many.ensures.0 many))
     ]
