@@ -211,7 +211,8 @@ as_true_merged s t e =
 -- ---- over any set of facts
 
 pub free_never : (known : FactConstraints) (c : Condition) {E : Type 0} (r : Result Decided E) → KnowsNothing known
-    → IfOk r (λ d. SaysNever d known c) → IfOk r (λ d. IsTrue (is_unknown d) → NeedsMoreFor known c MAX_SPLITS_PER_TARGET)
+    → IfOk r (λ d. SaysNever d known c)
+    → IfOk r (λ d. IsTrue (is_unknown d) → NeedsMoreFor known c MAX_SPLITS_PER_TARGET)
     → IfOk r (λ d. SaysNeverFree true d c)
 free_never known c (Ok decided.Yes) nothing says more =
     λ name s holds. says name s (all_allowed known nothing s) holds
@@ -220,7 +221,8 @@ free_never known c (Ok decided.Unknown) nothing says more = (known, (nothing, mo
 free_never known c (Err e) nothing says more = tt
 
 pub free_always : (known : FactConstraints) (c : Condition) {E : Type 0} (r : Result Decided E) → KnowsNothing known
-    → IfOk r (λ d. SaysAlways d known c) → IfOk r (λ d. IsTrue (is_unknown d) → NeedsMoreFor known c MAX_SPLITS_PER_TARGET)
+    → IfOk r (λ d. SaysAlways d known c)
+    → IfOk r (λ d. IsTrue (is_unknown d) → NeedsMoreFor known c MAX_SPLITS_PER_TARGET)
     → IfOk r (λ d. SaysNeverFree false d c)
 free_always known c (Ok decided.Yes) nothing says more =
     λ name s fails. fails (says name s (all_allowed known nothing s))

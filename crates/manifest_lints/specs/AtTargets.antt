@@ -32,7 +32,8 @@ pub record KnowsNothing (k : FactConstraints) : Type 0 where
 
 -- the case splits on one target are too few for the condition
 abbrev pub NeedsMoreFree : Condition → Type 0
-NeedsMoreFree c = (known : FactConstraints) × (KnowsNothing known × NeedsMore known (asked_trees (c ∷ [])) MAX_SPLITS_PER_TARGET)
+NeedsMoreFree c = (known : FactConstraints)
+    × (KnowsNothing known × NeedsMore known (asked_trees (c ∷ [])) MAX_SPLITS_PER_TARGET)
 
 -- the meaning of the answers to whether it never has this truth value
 abbrev pub SaysNeverFree : Bool → Decided → Condition → Type 0
