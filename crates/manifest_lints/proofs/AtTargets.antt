@@ -411,7 +411,8 @@ module _ (truth : Bool) (facts : ℕ) (open_keys : List (List ℕ)) (c : Conditi
 pub settles_none : (truth : Bool) (facts : ℕ) (ts : List (Bor (List ℕ))) (c : Condition) → MAX_OPEN_NAMES < length ts
     → SettlesOn truth facts (names_of ts) c false
 settles_none truth facts ts c h =
-    let many : MAX_OPEN_NAMES < length (names_of ts) = subst (λ n. MAX_OPEN_NAMES < n) (sym (length-map ts (λ t. t.now))) h in
+    let many : MAX_OPEN_NAMES < length (names_of ts) =
+    subst (λ n. MAX_OPEN_NAMES < n) (sym (length-map ts (λ t. t.now))) h in
     record {
       right = λ yes. absurd (true≢false (sym yes));
       by_facts = λ few all. absurd (let never : ⊥ = omega (arith, few, many) in never);
