@@ -138,11 +138,12 @@ def divided(names, sizes, count):
 def parts(module, count, alone=()):
     """The texts of the parts of a module, each made when it is asked for.
 
-    With `alone` there is one part more for these functions. Before it is one for what only they need, and no export, if
-    the module has exports.
+    With `alone` there is one part more for these functions, which call others by the names that these have. Before it is
+    one for what only they need, and no export, if the module has exports.
     """
     visible = [name for name, it in module.functions.items() if not it.is_internal]
-    module.unite(reached(visible, module.uses), {*alone})
+    apart = {it for name in alone for it in (name, *module.uses(name))}
+    module.unite(reached(visible, module.uses), apart)
     used = reached(visible, module.uses)
     large = {it for it in used if module.size(it) > SMALL or not module.functions[it].is_internal}
     large = (large | {it for name in alone for it in module.uses(name)}) - {*alone}
