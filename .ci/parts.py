@@ -138,8 +138,8 @@ def divided(names, sizes, count):
 def parts(module, count, alone=()):
     """The texts of the parts of a module, each made when it is asked for.
 
-    With `alone` there is one part more for these functions, which call others by the names that these have. Before it is
-    one for what only they need, and no export, if the module has exports.
+    With `alone` there is one part more for these functions, which call others by their own names. Before it is one for
+    what only they need, and no export, if the module has exports.
     """
     visible = [name for name, it in module.functions.items() if not it.is_internal]
     apart = {it for name in alone for it in (name, *module.uses(name))}

@@ -7,6 +7,9 @@
 // so, at which allocation first, the status, the blocks that were not released, and how many bytes stand on standard
 // output and on standard error.
 //
+// With `REFUSED_SOME` in its environment it refuses each of the first allocations, and behind them every seventh, which
+// is at another place of the code each time unless the program makes seven allocations in turn.
+//
 // `REFUSED_CONTROL` plants a fault, which has to be told: with `given` nothing is refused, and with `forgotten` a block
 // is not released. They are known by their first letters.
 typedef unsigned long size_t;
@@ -44,6 +47,9 @@ enum { SECONDS = 20, WAYS = 16 };
 // The status where there were too many ways.
 enum { MISSED = 255 };
 
+// Each of so many first allocations is refused if some are, and every one of this number behind them.
+enum { FIRST = 500, EVERY = 7 };
+
 // A file that a program has open has a number below this one.
 enum { FILES = 64 };
 
@@ -72,7 +78,7 @@ static struct shared {
 // That of this process.
 static struct run *run;
 
-static int is_counted, is_given, forgets;
+static int is_counted, is_given, forgets, is_some;
 
 // Where the program prints, and a copy of it: to standard output and to standard error.
 static int outputs[2], copied[2];
@@ -154,6 +160,7 @@ static int is_refused(void) {
     if (!is_counted || run != &shared->whole) return 0;
     int status, process;
     run->asked++;
+    if (is_some && run->asked > FIRST && run->asked % EVERY) return 0;
     alarm(0);
     shared->copy = *run;
     process = fork();
@@ -212,6 +219,7 @@ __attribute__((constructor)) static void begin(void) {
         alarm(SECONDS);
         is_given = is_control('g');
         forgets = is_control('f');
+        is_some = getenv("REFUSED_SOME") != 0;
         is_counted = 1;
         return;
     }
