@@ -1,7 +1,7 @@
 // Stands before the C library's `malloc`, and refuses a program each of its allocations in turn.
 //
 // The program runs once, with nothing refused. At each allocation it forks, and its copy goes on with this allocation
-// refused, while the program itself waits for the copy to end. A copy reads what is left of its files, and writes behind
+// refused, while the program itself waits for the copy to end. A copy reads what is left of its files, and writes after
 // what was printed before. Then standard output has an outcome for each way in which the copies ended, and before them
 // that of the program itself. An outcome is a line of six numbers, with what was printed behind it: how many runs ended
 // so, at which allocation first, the status, the blocks that were not released, and how many bytes stand on standard
