@@ -75,8 +75,8 @@ pub fn budget_for(facts: usize) -> u64
     (SPLITS * 64 / (facts as u64)).max(8)
 }
 
-/// Decides whether a condition is true for no possible target. Some sets of facts are tried first, which takes less
-/// than a search. Fails if memory is refused.
+/// Decides whether a condition is true for no possible target. If that takes too many case splits, some sets of facts
+/// are tried. Fails if memory is refused.
 pub fn is_never<'a>(
     alloc: Global,
     platform: &'a Platform,
@@ -87,19 +87,15 @@ pub fn is_never<'a>(
     ensures unknown { IfOk result
         (λ d. IsTrue (is_unknown d) → NeedsMoreFor known.now (condition_of platform.now) budget) }
 {
-    let shown = unless_shown(alloc, platform, known, true)?;
-    if !is_unknown(shown) {
-        return Ok(shown);
-    }
     match can_hold_platform(alloc, platform, known, budget)? {
         CanSelect::No => Ok(Decided::Yes),
         CanSelect::Yes(_) => Ok(Decided::No),
-        CanSelect::Undecided => Ok(Decided::Unknown),
+        CanSelect::Undecided => unless_shown(alloc, platform, known, true),
     }
 }
 
-/// Decides whether a condition is true for each possible target. Some sets of facts are tried first, which takes less
-/// than a search. Fails if memory is refused.
+/// Decides whether a condition is true for each possible target. If that takes too many case splits, some sets of facts
+/// are tried. Fails if memory is refused.
 pub fn is_always<'a>(
     alloc: Global,
     platform: &'a Platform,
@@ -110,14 +106,10 @@ pub fn is_always<'a>(
     ensures unknown { IfOk result
         (λ d. IsTrue (is_unknown d) → NeedsMoreFor known.now (condition_of platform.now) budget) }
 {
-    let shown = unless_shown(alloc, platform, known, false)?;
-    if !is_unknown(shown) {
-        return Ok(shown);
-    }
     match always_platform(alloc, platform, known, budget)? {
         MustSelect::Yes => Ok(Decided::Yes),
         MustSelect::No(_) => Ok(Decided::No),
-        MustSelect::Undecided => Ok(Decided::Unknown),
+        MustSelect::Undecided => unless_shown(alloc, platform, known, false),
     }
 }
 

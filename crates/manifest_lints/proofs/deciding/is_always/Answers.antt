@@ -5,7 +5,7 @@ use Rattle.exact_answers.specs.declared.platforms.MustSelect.{MustSelect}
 use Rattle.exact_answers.specs.Targets.{SaysMustSelect}
 use Rattle.manifest_lints.specs.declared.deciding.Decided.{Decided}
 use Rattle.manifest_lints.specs.Truths.{SaysAlways, NeedsMoreFor, is_unknown}
-use Rattle.manifest_lints.proofs.Verdicts.{as_ok, can_fail}
+use Rattle.manifest_lints.proofs.Verdicts.{as_ok, each_ok, can_fail}
 use Rattle.manifest_lints.proofs.deciding.is_always.Goals as goal
 use Rattle.manifest_lints.proofs.deciding.is_always.Goals.{in-Yes, in-No, in-Undecided}
 
@@ -21,7 +21,7 @@ returns-clause-says c =
       | in-No w ↦
           as_ok (λ d. SaysAlways d k p) _ _ w.result-is
           (can_fail k p w.in-No.field-0 (subst says w.in-No.is c.in_ok-always_platform.ensures))
-      | in-Undecided w ↦ as_ok (λ d. SaysAlways d k p) _ _ w.result-is tt
+      | in-Undecided w ↦ as_ok (λ d. SaysAlways d k p) _ _ w.result-is w.unless_shown.ensures
     ]
 
 pub returns-clause-unknown : goal.returns-clause-unknown
@@ -35,5 +35,7 @@ returns-clause-unknown c =
       | in-Yes w ↦ as_ok N _ _ w.result-is (λ h. absurd (true≢false (sym h)))
       | in-No w ↦ as_ok N _ _ w.result-is (λ h. absurd (true≢false (sym h)))
       | in-Undecided w ↦
-          as_ok N _ _ w.result-is (λ h. subst says w.in-Undecided.is c.in_ok-always_platform.ensures)
+          as_ok N _ _ w.result-is
+          (each_ok N w.unless_shown.result
+          (λ d h. subst says w.in-Undecided.is c.in_ok-always_platform.ensures))
     ]

@@ -5,7 +5,7 @@ use Rattle.exact_answers.specs.declared.platforms.CanSelect.{CanSelect}
 use Rattle.exact_answers.specs.Targets.{SaysCanSelect}
 use Rattle.manifest_lints.specs.declared.deciding.Decided.{Decided}
 use Rattle.manifest_lints.specs.Truths.{SaysNever, NeedsMoreFor, is_unknown}
-use Rattle.manifest_lints.proofs.Verdicts.{as_ok, can_hold}
+use Rattle.manifest_lints.proofs.Verdicts.{as_ok, each_ok, can_hold}
 use Rattle.manifest_lints.proofs.deciding.is_never.Goals as goal
 use Rattle.manifest_lints.proofs.deciding.is_never.Goals.{in-No, in-Yes, in-Undecided}
 
@@ -20,7 +20,7 @@ returns-clause-says c =
       | in-Yes w ↦
           as_ok (λ d. SaysNever d k p) _ _ w.result-is
           (can_hold k p w.in-Yes.field-0 (subst says w.in-Yes.is c.in_ok-can_hold_platform.ensures))
-      | in-Undecided w ↦ as_ok (λ d. SaysNever d k p) _ _ w.result-is tt
+      | in-Undecided w ↦ as_ok (λ d. SaysNever d k p) _ _ w.result-is w.unless_shown.ensures
     ]
 
 pub returns-clause-unknown : goal.returns-clause-unknown
@@ -34,5 +34,7 @@ returns-clause-unknown c =
       | in-No w ↦ as_ok N _ _ w.result-is (λ h. absurd (true≢false (sym h)))
       | in-Yes w ↦ as_ok N _ _ w.result-is (λ h. absurd (true≢false (sym h)))
       | in-Undecided w ↦
-          as_ok N _ _ w.result-is (λ h. subst says w.in-Undecided.is c.in_ok-can_hold_platform.ensures)
+          as_ok N _ _ w.result-is
+          (each_ok N w.unless_shown.result
+          (λ d h. subst says w.in-Undecided.is c.in_ok-can_hold_platform.ensures))
     ]
