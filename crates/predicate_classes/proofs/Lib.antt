@@ -1,3 +1,4 @@
 pub mod Categories
 pub mod Rules
 pub mod Had
+pub mod NoValue

@@ -20,7 +20,7 @@ use crate::rustc_names::{
     VALUED, is_target_feature, pair,
 };
 use cargo_platform::{Cfg, Platform};
-use known_targets::{KnownTarget, having};
+use known_targets::{KnownTarget, having, is_value};
 use partial_facts::names::is_among;
 use std::alloc::{AllocError, Global};
 use strsim::osa_distance;
@@ -178,6 +178,9 @@ fn key_of_value(
     ensures { IfOk result (λ key. is_some key ≡ list_any (has_as_value value.now) (names_of keys.now)) }
 {
     let lower = value.to_ascii_lowercase(alloc)?;
+    if !is_value(lower.as_str()) {
+        return Ok(None);
+    }
     'keys: for key in keys {
         if is_value_of(alloc, key, lower.as_str())? {
             return Ok(Some(*key));
