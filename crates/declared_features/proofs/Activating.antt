@@ -1,6 +1,6 @@
 -- The requests of an activation root, while they are gathered.
-use Rattle.std.proofs.Common.{◌≡◌, ℕ, ◌+◌, ◌<◌, List, [], ◌∷◌, ◌++◌, length, map, get_or, take, sym, ◌∙◌, ap, Bool, cond}
-use Rattle.std.proofs.Common.{true, false, subst, Option, Some, None}
+use Rattle.std.proofs.Common.{◌≡◌, ℕ, ◌+◌, ◌<◌, List, [], ◌∷◌, ◌++◌, length, map, get_or, take, sym, ◌∙◌, ap, Bool}
+use Rattle.std.proofs.Common.{cond, true, false, subst, Option, Some, None}
 use Rattle.std.specs.Prelude.{All, filter}
 use Rattle.std.proofs.lemmas.List.{map-append, append-nil}
 use Rattle.std.proofs.lemmas.List.Elements.{filter_more, All-push}
@@ -57,7 +57,8 @@ all_unused old new d pushed all one =
 
 -- ---- the packages with an activation root
 
-pub no_current : (current : Option ℕ) (packages : List Package) → current ≡ None → AreActivated current packages packages
+pub no_current : (current : Option ℕ) (packages : List Package) → current ≡ None
+    → AreActivated current packages packages
 no_current current packages none =
     as_before (λ index is. absurd (let no_index : Some index ≡ None = sym is ∙ none in cc))
 

@@ -5,3 +5,4 @@ pub mod Positions
 pub mod Matching
 pub mod Activating
 pub mod Describing
+pub mod Rejecting

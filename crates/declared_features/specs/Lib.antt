@@ -1,5 +1,6 @@
 pub mod Entries
 pub mod Documents
+pub mod Refusals
 pub mod Lists
 pub mod Manifests
 pub mod Members

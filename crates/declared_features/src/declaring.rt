@@ -1,11 +1,12 @@
 //! A graph of packages with what each of them declares, and the edges of declared dependencies.
 
-ghost use Rattle.std.specs.Prelude.{◌≡◌, ◌==◌, ◌↔◌, ◌++◌, ℕ, cond, codes, length, map, IsTrue, IfOk, OnOk, List};
+ghost use Rattle.std.specs.Prelude.{◌≡◌, ◌==◌, ◌↔◌, ◌++◌, ℕ, cond, codes, length, map, IsTrue, IfOk, IfErr, OnOk, List};
 ghost use Rattle.std.specs.Option.{option_copied};
 ghost use Rattle.serde_json.specs.View.{view};
 ghost use Rattle.cargo_metadata.specs.Indexes.{index_at};
 ghost use Rattle.cargo_metadata.specs.Rows.{AreRowsAt};
 ghost use Rattle.declared_features.specs.Documents.{IsManifest};
+ghost use Rattle.declared_features.specs.Refusals.{IsRefused};
 ghost use Rattle.declared_features.specs.Manifests.{index_of_id, package_index, manifest_at};
 ghost use Rattle.declared_features.specs.Rows.{EdgeKind, kinds_by, kinds_at, links_at, AreRowsOf};
 ghost use Rattle.declared_features.specs.Edges.{AreSame, IsLike, IsOf, name_at, code_name};
@@ -106,6 +107,9 @@ impl<'a> Declarations<'a> {
         // The manifest of a node is that of the first package with its id.
         ensures packages { IfOk result (λ it. it.package_indexes.items
             ≡ map (package_index metadata.now.packages.items) metadata.now.nodes.items) }
+        // Unless memory is refused, an error is the first one of the document. The packages are read in order, and of
+        // each first the dependencies in order, and then the features.
+        ensures refused { IfErr result (λ refusal. IsRefused (view document.now) refusal) }
     {
         let manifests = read_manifests(alloc, document)?;
         match declarations_of(alloc, metadata, manifests) {

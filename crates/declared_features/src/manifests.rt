@@ -1,13 +1,16 @@
 //! The declarations of packages in a document: their dependencies and features.
 
-ghost use Rattle.std.specs.Prelude.{◌≡◌, IfOk, IfSome, Some, option_map, codes};
+ghost use Rattle.std.specs.Prelude.{◌≡◌, ◌++◌, IfOk, IfErr, IfSome, Some, All, MatchResult, option_map, is_some, codes};
 ghost use Rattle.std.specs.Option.{option_copied};
 ghost use Rattle.serde_json.specs.View.{view};
-ghost use Rattle.cargo_metadata.specs.Fields.{text_at, flag_at};
+ghost use Rattle.serde_json.specs.Find.{get, as_array};
+ghost use Rattle.cargo_metadata.specs.Fields.{text_at, flag_at, fits, is_texts, Fits, IsFirstWrong};
 ghost use Rattle.cargo_metadata.specs.Nodes.{kind_at, condition_at};
 ghost use Rattle.cargo_metadata.specs.Rows.{AreRowsAt};
 ghost use Rattle.declared_features.specs.Documents.{IsText, IsDeclared, AreEntriesOf, AreFeaturesOf, IsManifest};
 ghost use Rattle.declared_features.specs.Documents.{is_library_kind, is_library, library_of};
+ghost use Rattle.declared_features.specs.Refusals.{fields_of_subject, fields_of_flags, IsInDeclared, IsInManifest};
+ghost use Rattle.declared_features.specs.Refusals.{IsRefused};
 
 use crate::entries::{FeatureEntry, entry_of};
 use cargo_metadata::fields::{
@@ -80,7 +83,9 @@ pub enum Refusal {
 
 /// Returns the features that a declared dependency requests.
 fn requested_of<'a>(alloc: Global, value: &'a Value) -> Result<Vec<&'a str>, InDeclared>
-    ensures { IfOk result (λ features. AreRowsAt IsText (codes "features") (view value.now) features.items) }
+    ensures features { IfOk result (λ features. AreRowsAt IsText (codes "features") (view value.now) features.items) }
+    ensures fault { IfErr result (λ fault. All (Fits (view value.now)) (fields_of_subject ++ fields_of_flags)
+        → IsInDeclared (view value.now) fault) }
 {
     let items = match wanted_list(value, "features") {
         Ok(items) => items,
@@ -102,6 +107,7 @@ fn requested_of<'a>(alloc: Global, value: &'a Value) -> Result<Vec<&'a str>, InD
 fn flags_of(value: &Value) -> Result<(bool, bool), Wrong>
     ensures optional { IfOk result (λ flags. flag_at (codes "optional") (view value.now) ≡ Some flags.0) }
     ensures default { IfOk result (λ flags. flag_at (codes "uses_default_features") (view value.now) ≡ Some flags.1) }
+    ensures fault { IfErr result (IsFirstWrong fields_of_flags (view value.now)) }
 {
     let is_optional = wanted_flag(value, "optional")?;
     let uses_default = wanted_flag(value, "uses_default_features")?;
@@ -113,6 +119,7 @@ fn subject_of<'a>(value: &'a Value) -> Result<(&'a str, Kind, Option<&'a str>), 
     ensures name { IfOk result (λ subject. text_at (codes "name") (view value.now) ≡ Some subject.0.now) }
     ensures kind { IfOk result (λ subject. kind_at (view value.now) ≡ Some subject.1) }
     ensures condition { IfOk result (λ subject. condition_at (view value.now) ≡ Some (option_copied subject.2)) }
+    ensures fault { IfErr result (IsFirstWrong fields_of_subject (view value.now)) }
 {
     let name = wanted_text(value, "name")?;
     let kind = kind_of(value)?;
@@ -122,7 +129,8 @@ fn subject_of<'a>(value: &'a Value) -> Result<(&'a str, Kind, Option<&'a str>), 
 
 /// Reads a declared dependency from an object.
 fn declared_of<'a>(alloc: Global, value: &'a Value) -> Result<Declared<'a>, InDeclared>
-    ensures { IfOk result (IsDeclared (view value.now)) }
+    ensures { MatchResult result (λ declared. IsDeclared (view value.now) declared)
+        (λ fault. IsInDeclared (view value.now) fault) }
 {
     let (name, kind, condition) = match subject_of(value) {
         Ok(subject) => subject,
@@ -195,7 +203,8 @@ fn entries_of<'a>(
     alloc: Global,
     value: &'a Value,
 ) -> Result<Option<Vec<FeatureEntry<'a>>>, AllocError>
-    ensures { IfOk result (λ found. IfSome found (λ entries. AreEntriesOf (view value.now) entries.items)) }
+    ensures entries { IfOk result (λ found. IfSome found (λ entries. AreEntriesOf (view value.now) entries.items)) }
+    ensures texts { IfOk result (λ found. is_some found ≡ is_texts (as_array (view value.now))) }
 {
     let Some(items) = value.as_array() else {
         return Ok(None);
@@ -212,7 +221,9 @@ fn entries_of<'a>(
 
 /// Returns the features of a package, or `None` if they are not an object of lists of texts.
 fn features_of<'a>(alloc: Global, value: &'a Value) -> Result<Option<Vec<Feature<'a>>>, AllocError>
-    ensures { IfOk result (λ found. IfSome found (λ features. AreFeaturesOf (view value.now) features.items)) }
+    ensures features { IfOk result (λ found. IfSome found (λ features. AreFeaturesOf (view value.now) features.items)) }
+    ensures fits { IfOk result
+        (λ found. is_some found ≡ fits Wanted.Features (get (codes "features") (view value.now))) }
 {
     let Some(found) = field_at(value, "features") else {
         return Ok(None);
@@ -235,8 +246,9 @@ fn features_of<'a>(alloc: Global, value: &'a Value) -> Result<Option<Vec<Feature
 
 /// Returns the dependencies that a package declares.
 fn dependencies_of<'a>(alloc: Global, value: &'a Value) -> Result<Vec<Declared<'a>>, InManifest>
-    ensures { IfOk result
-        (λ dependencies. AreRowsAt IsDeclared (codes "dependencies") (view value.now) dependencies.items) }
+    ensures { MatchResult result
+        (λ dependencies. AreRowsAt IsDeclared (codes "dependencies") (view value.now) dependencies.items)
+        (λ fault. IsInManifest (view value.now) fault) }
 {
     let items = match wanted_list(value, "dependencies") {
         Ok(items) => items,
@@ -258,7 +270,8 @@ fn dependencies_of<'a>(alloc: Global, value: &'a Value) -> Result<Vec<Declared<'
 
 /// Reads the declarations of a package from an object.
 fn manifest_of<'a>(alloc: Global, value: &'a Value) -> Result<Manifest<'a>, InManifest>
-    ensures { IfOk result (IsManifest (view value.now)) }
+    ensures { MatchResult result (λ manifest. IsManifest (view value.now) manifest)
+        (λ fault. IsInManifest (view value.now) fault) }
 {
     let dependencies = dependencies_of(alloc, value)?;
     let features = match features_of(alloc, value) {
@@ -284,8 +297,9 @@ fn manifest_of<'a>(alloc: Global, value: &'a Value) -> Result<Manifest<'a>, InMa
 ///
 /// Fails for the first field that lacks a value of the expected type, and if memory is refused.
 pub fn read_manifests<'a>(alloc: Global, document: &'a Value) -> Result<Vec<Manifest<'a>>, Refusal>
-    ensures { IfOk result
-        (λ manifests. AreRowsAt IsManifest (codes "packages") (view document.now) manifests.items) }
+    ensures { MatchResult result
+        (λ manifests. AreRowsAt IsManifest (codes "packages") (view document.now) manifests.items)
+        (λ refusal. IsRefused (view document.now) refusal) }
 {
     let items = match wanted_list(document, "packages") {
         Ok(items) => items,

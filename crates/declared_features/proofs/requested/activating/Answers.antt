@@ -24,13 +24,15 @@ dependencies-preserved c =
           let pushed = ap items w.dependencies-is ∙ w.in_ok-push-2.ensures.items in (
             copied ds i d first c.dependencies.dependencies.items c.if-matches.dependencies.items
                 w.in_ok-unused-2.field-0 below is (dev ∙ w.if-matches.true) pushed
-                (w.in_ok-unused-2.ensures.request ∙ ap (λ (l : List ℕ). (d.to, d.kind, l)) w.deref.ensures.value) c.dependencies.invariant.0,
+                (w.in_ok-unused-2.ensures.request ∙ ap (λ (l : List ℕ). (d.to, d.kind, l)) w.deref.ensures.value)
+                c.dependencies.invariant.0,
             all_unused c.dependencies.dependencies.items c.if-matches.dependencies.items w.in_ok-unused-2.field-0 pushed
                 c.dependencies.invariant.1 w.in_ok-unused-2.ensures.unused,
           )
       | else-matches w ↦
           let same = ap items w.dependencies-is in (
-            passed_over ds i d first (map request_of c.if-matches.dependencies.items) below is (dev ∙ w.if-matches.false) (ap (map request_of) same ∙ c.dependencies.invariant.0),
+            passed_over ds i d first (map request_of c.if-matches.dependencies.items) below is
+                (dev ∙ w.if-matches.false) (ap (map request_of) same ∙ c.dependencies.invariant.0),
             subst (All IsUnused) (sym same) c.dependencies.invariant.1,
           )
     ]
