@@ -19,7 +19,7 @@ use Rattle.cargo_metadata.specs.Indexes.{index_at}
 use Rattle.declared_features.specs.Inside.Names.{AreNamesOf, AreNamesBelow}
 use Rattle.declared_features.specs.Inside.Links.{IsLinkBelow}
 use Rattle.declared_features.specs.declared.declaring.Declarations.{Declarations}
-use Rattle.declared_features.specs.declared.declaring.Declaring.{Declaring}
+use Rattle.declared_features.specs.declared.declaring.DeclaredGraph.{DeclaredGraph}
 use Rattle.declared_features.specs.declared.declaring.Row.{Row}
 use Rattle.declared_features.specs.declared.entries.FeatureEntry.{FeatureEntry}
 use Rattle.declared_features.specs.declared.linking.Names.{Names}
@@ -98,7 +98,7 @@ names_all declarations n names past below node q =
 abbrev pair_of : Row → Declared → Row × Declared
 pair_of row declared = (row, declared)
 
-pub link_first : (graph : Declaring) (node : ℕ) (rows : List Row) (i : ℕ) (declared : List Declared)
+pub link_first : (graph : DeclaredGraph) (node : ℕ) (rows : List Row) (i : ℕ) (declared : List Declared)
     (link : Row × Declared) → IsLinkBelow graph node rows i declared 0 link
     → IsLink graph node (take i rows) declared link
 link_first graph node rows i declared link below =
@@ -108,7 +108,8 @@ link_first graph node rows i declared link below =
     ]
 
 -- one more declared dependency, to which the edge belongs
-pub link_more : (graph : Declaring) (node : ℕ) (rows : List Row) (i : ℕ) (row : Row) (declared : List Declared) (j : ℕ)
+pub link_more : (graph : DeclaredGraph) (node : ℕ) (rows : List Row) (i : ℕ) (row : Row) (declared : List Declared)
+    (j : ℕ)
     (d : Declared) → slice_get rows i ≡ Some row → slice_get declared j ≡ Some d → (link : Row × Declared)
     → IsLinkBelow graph node rows i declared (j + 1) link
     → IsLinkBelow graph node rows i declared j link ⊎ (((row, d) ≡ link) × IsOf graph node row d)
@@ -131,7 +132,7 @@ link_more graph node rows i row declared j d row_at d_at (r, e) below =
           ]
     ]
 
-pub link_before : (graph : Declaring) (node : ℕ) (rows : List Row) (i : ℕ) (declared : List Declared) (j : ℕ)
+pub link_before : (graph : DeclaredGraph) (node : ℕ) (rows : List Row) (i : ℕ) (declared : List Declared) (j : ℕ)
     (d : Declared) → slice_get declared j ≡ Some d → (link : Row × Declared)
     → IsLinkBelow graph node rows i declared j link → IsLinkBelow graph node rows i declared (j + 1) link
 link_before graph node rows i declared j d d_at link below =
@@ -144,7 +145,8 @@ link_before graph node rows i declared j d d_at link below =
       })
     ]
 
-pub link_here : (graph : Declaring) (node : ℕ) (rows : List Row) (i : ℕ) (row : Row) (declared : List Declared) (j : ℕ)
+pub link_here : (graph : DeclaredGraph) (node : ℕ) (rows : List Row) (i : ℕ) (row : Row) (declared : List Declared)
+    (j : ℕ)
     (d : Declared) → slice_get rows i ≡ Some row → slice_get declared j ≡ Some d → IsOf graph node row d
     → (link : Row × Declared) → (row, d) ≡ link → IsLinkBelow graph node rows i declared (j + 1) link
 link_here graph node rows i row declared j d row_at d_at belongs link same =
@@ -152,7 +154,8 @@ link_here graph node rows i row declared j d row_at d_at belongs link same =
     (inr (record { row_is = row_at; declared_is = taken_here declared j d d_at; belongs = belongs }))
 
 -- all declared dependencies of one more row
-pub link_row : (graph : Declaring) (node : ℕ) (rows : List Row) (i : ℕ) (row : Row) (declared : List Declared) (j : ℕ)
+pub link_row : (graph : DeclaredGraph) (node : ℕ) (rows : List Row) (i : ℕ) (row : Row) (declared : List Declared)
+    (j : ℕ)
     → slice_get rows i ≡ Some row → length declared ≤ j → (link : Row × Declared)
     → IsLinkBelow graph node rows i declared j link → IsLink graph node (take (i + 1) rows) declared link
 link_row graph node rows i row declared j row_at past link below =
@@ -170,7 +173,8 @@ link_row graph node rows i row declared j row_at past link below =
       }
     ]
 
-pub row_link : (graph : Declaring) (node : ℕ) (rows : List Row) (i : ℕ) (row : Row) (declared : List Declared) (j : ℕ)
+pub row_link : (graph : DeclaredGraph) (node : ℕ) (rows : List Row) (i : ℕ) (row : Row) (declared : List Declared)
+    (j : ℕ)
     → slice_get rows i ≡ Some row → length declared ≤ j → (link : Row × Declared)
     → IsLink graph node (take (i + 1) rows) declared link → IsLinkBelow graph node rows i declared j link
 row_link graph node rows i row declared j row_at past link is =
@@ -256,7 +260,8 @@ lists_more IsMember features i f lists new members below is count pushed just ha
 
 -- ---- all packages
 
-pub described_grown : (graph : Declaring) (requested : RequestedFeatures) (at : FeatureIndexes) (packages new : List Package) (edges newer : List
+pub described_grown : (graph : DeclaredGraph) (requested : RequestedFeatures) (at : FeatureIndexes)
+    (packages new : List Package) (edges newer : List
     (Vec ℕ Global))
     (more : List Package) (more_edges : List (Vec ℕ Global)) (node : ℕ) → new ≡ packages ++ more
     → newer ≡ edges ++ more_edges → IsDescribedAt graph requested at packages edges node → IsDescribedAt graph requested at new newer node
@@ -272,7 +277,8 @@ described_grown graph requested at packages new edges newer more more_edges node
   is = described.is;
 }
 
-pub described_more : (graph : Declaring) (requested : RequestedFeatures) (at : FeatureIndexes) (packages new : List Package) (edges newer : List
+pub described_more : (graph : DeclaredGraph) (requested : RequestedFeatures) (at : FeatureIndexes)
+    (packages new : List Package) (edges newer : List
     (Vec ℕ Global))
     (unit : Package) (its : Vec ℕ Global) (n : ℕ) → new ≡ packages ++ unit ∷ [] → newer ≡ edges ++ its ∷ []
     → length packages ≡ n → length edges ≡ n → IsDescribed graph requested at n unit its.items

@@ -9,7 +9,7 @@ use Rattle.declared_features.specs.Requests.{AreDependenciesOf}
 use Rattle.declared_features.specs.Requested.{is_concerned, AreRequested, HasLast}
 use Rattle.declared_features.specs.Edges.{name_at}
 use Rattle.declared_features.specs.declared.declaring.Declarations.{Declarations}
-use Rattle.declared_features.specs.declared.declaring.Declaring.{Declaring}
+use Rattle.declared_features.specs.declared.declaring.DeclaredGraph.{DeclaredGraph}
 use Rattle.declared_features.specs.declared.linking.Described.{Described}
 use Rattle.declared_features.specs.declared.linking.Named.{Named}
 use Rattle.declared_features.specs.declared.linking.RequestedFeatures.{RequestedFeatures}
@@ -19,7 +19,7 @@ abbrev pub declared_indexes : Declarations → FeatureIndexes
 declared_indexes declarations node q = feature_index (features_at declarations node) q
 
 -- the package of a node, and for each of its dependencies the index among those of the graph
-pub record IsDescribed (graph : Declaring) (requested : RequestedFeatures) (at : FeatureIndexes) (node : ℕ)
+pub record IsDescribed (graph : DeclaredGraph) (requested : RequestedFeatures) (at : FeatureIndexes) (node : ℕ)
     (unit_of : Package) (edges : List ℕ) : Type 0 where
   pub unit : Unit
   pub there : slice_get graph.linked.now.packages.items node ≡ Some unit
@@ -36,7 +36,7 @@ pub record IsDescribed (graph : Declaring) (requested : RequestedFeatures) (at :
   pub requests : unit_of.requested.items ≡ cond unit.is_root ((length unit_of.features.items - 1) ∷ []) []
 
 -- the described package at the index of a node is that of the node
-pub record IsDescribedAt (graph : Declaring) (requested : RequestedFeatures) (at : FeatureIndexes)
+pub record IsDescribedAt (graph : DeclaredGraph) (requested : RequestedFeatures) (at : FeatureIndexes)
     (packages : List Package) (edges : List (Vec ℕ Global)) (node : ℕ) : Type 0 where
   pub package_at : Package
   pub edges_at : Vec ℕ Global
@@ -45,7 +45,7 @@ pub record IsDescribedAt (graph : Declaring) (requested : RequestedFeatures) (at
   pub is : IsDescribed graph requested at node package_at edges_at.items
 
 -- each node's package is described
-abbrev pub AreDescribed : Declaring → RequestedFeatures → Described → Type 0
+abbrev pub AreDescribed : DeclaredGraph → RequestedFeatures → Described → Type 0
 AreDescribed graph requested described =
     (node : ℕ) → node < length graph.linked.now.packages.items
     → IsDescribedAt graph requested (declared_indexes graph.declared.now) described.packages.items described.edges.items node

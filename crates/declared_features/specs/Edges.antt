@@ -5,7 +5,7 @@ use Rattle.std.specs.Option.{option_copied}
 use Rattle.std.specs.Borrow.{Bor}
 use Rattle.cargo_metadata.specs.declared.packages.Package.{Package as Described}
 use Rattle.declared_features.specs.Manifests.{manifest_at}
-use Rattle.declared_features.specs.declared.declaring.Declaring.{Declaring}
+use Rattle.declared_features.specs.declared.declaring.DeclaredGraph.{DeclaredGraph}
 use Rattle.declared_features.specs.declared.declaring.Row.{Row}
 use Rattle.declared_features.specs.declared.manifests.Declared.{Declared}
 use Rattle.declared_features.specs.declared.manifests.Manifest.{Manifest}
@@ -22,7 +22,7 @@ name_in None = []
 name_in (Some described) = described.name.now
 
 -- the name of a node's package
-abbrev pub name_at : Declaring → ℕ → List ℕ
+abbrev pub name_at : DeclaredGraph → ℕ → List ℕ
 name_at graph node = name_in (slice_get graph.linked.now.described.items node)
 
 abbrev pub library_in : List ℕ → Option Manifest → List ℕ
@@ -30,7 +30,7 @@ library_in name None = name
 library_in name (Some manifest) = unwrap_or (option_copied manifest.library) name
 
 -- the name of the library of a node's package, which is that of the package unless another one is declared
-abbrev pub library_at : Declaring → ℕ → List ℕ
+abbrev pub library_at : DeclaredGraph → ℕ → List ℕ
 library_at graph node = library_in (name_at graph node) (manifest_at graph.declared.now node)
 
 -- what code calls a dependency: as it is renamed, or else by its library's name; in a package that depends on itself,
@@ -40,7 +40,7 @@ abbrev pub called : Bool → Option (Bor (List ℕ)) → List ℕ → List ℕ
 called true rename library = library
 called false rename library = unwrap_or (option_copied rename) library
 
-abbrev pub code_name : Declaring → ℕ → ℕ → Declared → List ℕ
+abbrev pub code_name : DeclaredGraph → ℕ → ℕ → Declared → List ℕ
 code_name graph node to declared = called (node == to) declared.rename (library_at graph to)
 
 -- an edge without a name may have any
@@ -54,7 +54,7 @@ pub record IsLike (row : Row) (declared : Declared) : Type 0 where
   pub condition : option_copied row.kind.condition ≡ option_copied declared.condition
 
 -- the edge of a node belongs to the dependency that its package declares
-pub record IsOf (graph : Declaring) (node : ℕ) (row : Row) (declared : Declared) : Type 0 where
+pub record IsOf (graph : DeclaredGraph) (node : ℕ) (row : Row) (declared : Declared) : Type 0 where
   pub alike : IsLike row declared
   pub to : name_at graph row.linked.to ≡ declared.name.now
   pub code : MayBeCalled row.edge.now.name (code_name graph node row.linked.to declared)

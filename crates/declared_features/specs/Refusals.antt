@@ -7,10 +7,10 @@ use Rattle.cargo_metadata.specs.Fields.{Field, Fits, IsFirstWrong}
 use Rattle.cargo_metadata.specs.Rows.{HasRowsAt, IsFirstAt}
 use Rattle.cargo_metadata.specs.declared.refusals.Wanted.TheVariants as wanted
 use Rattle.declared_features.specs.Documents.{IsText, IsDeclared, IsManifest}
-use Rattle.declared_features.specs.declared.manifests.InDeclared.{InDeclared}
-use Rattle.declared_features.specs.declared.manifests.InDeclared.TheVariants as in_declared
-use Rattle.declared_features.specs.declared.manifests.InManifest.{InManifest}
-use Rattle.declared_features.specs.declared.manifests.InManifest.TheVariants as in_manifest
+use Rattle.declared_features.specs.declared.manifests.DependencyError.{DependencyError}
+use Rattle.declared_features.specs.declared.manifests.DependencyError.TheVariants as in_declared
+use Rattle.declared_features.specs.declared.manifests.ManifestError.{ManifestError}
+use Rattle.declared_features.specs.declared.manifests.ManifestError.TheVariants as in_manifest
 use Rattle.declared_features.specs.declared.manifests.Refusal.{Refusal}
 use Rattle.declared_features.specs.declared.manifests.Refusal.TheVariants as refusals
 
@@ -35,14 +35,14 @@ fields_of_document = (codes "packages", wanted.List) ∷ []
 -- ---- the first error
 
 -- the error is in the first field that is not as expected, or else in the first feature that is no text
-abbrev pub IsInDeclared : Data → InDeclared → Type 0
+abbrev pub IsInDeclared : Data → DependencyError → Type 0
 IsInDeclared d (in_declared.Field wrong) = IsFirstWrong fields_of_declared d wrong
 IsInDeclared d (in_declared.Feature i) =
     All (Fits d) fields_of_declared × IsFirstAt IsText (λ e. is_some (as_str e) ≡ false) (codes "features") i d
 IsInDeclared d (in_declared.Memory error) = Unit {0}
 
 -- the features are read after each of the dependencies
-abbrev pub IsInManifest : Data → InManifest → Type 0
+abbrev pub IsInManifest : Data → ManifestError → Type 0
 IsInManifest d (in_manifest.Field wrong) =
     IsFirstWrong fields_of_manifest d wrong
     × (wrong.field.now ≡ codes "features" → HasRowsAt IsDeclared (codes "dependencies") d)

@@ -6,7 +6,7 @@ use Rattle.declared_features.specs.Edges.{IsOf}
 use Rattle.declared_features.specs.Manifests.{dependencies_at}
 use Rattle.declared_features.specs.Members.{FeatureIndexes}
 use Rattle.declared_features.specs.Rows.{kinds_at, links_at, AreRowsOf}
-use Rattle.declared_features.specs.declared.declaring.Declaring.{Declaring}
+use Rattle.declared_features.specs.declared.declaring.DeclaredGraph.{DeclaredGraph}
 use Rattle.declared_features.specs.declared.declaring.Row.{Row}
 use Rattle.declared_features.specs.declared.linking.Named.{Named}
 use Rattle.declared_features.specs.declared.manifests.Declared.{Declared}
@@ -37,14 +37,16 @@ pub record IsNamedOf (at : FeatureIndexes) (node : ℕ) (row : Row) (declared : 
   pub edge : found.edge ≡ row.index
 
 -- the edge is one of the rows, belongs to the dependency, and this is one of the declared ones
-pub record IsLink (graph : Declaring) (node : ℕ) (rows : List Row) (declared : List Declared) (link : Row × Declared)
+pub record IsLink (graph : DeclaredGraph) (node : ℕ) (rows : List Row) (declared : List Declared)
+    (link : Row × Declared)
     : Type 0 where
   pub row_is : Contains rows link.0
   pub declared_is : Contains declared link.1
   pub belongs : IsOf graph node link.0 link.1
 
 -- they are the dependencies that the package of a node declares and that have edges
-pub record AreDependenciesOf (graph : Declaring) (at : FeatureIndexes) (node : ℕ) (found : List Named) : Type 0 where
+pub record AreDependenciesOf (graph : DeclaredGraph) (at : FeatureIndexes) (node : ℕ)
+    (found : List Named) : Type 0 where
   pub rows : List Row
   pub rows_are : AreRowsOf (kinds_at graph.metadata.now node) (links_at graph.linked.now node) rows
   pub matches : MatchesJust (IsLink graph node rows (dependencies_at graph.declared.now node))

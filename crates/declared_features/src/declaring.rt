@@ -143,7 +143,7 @@ impl<'a> Declarations<'a> {
 
 /// A document of `cargo metadata`, its graph, and what its packages declare.
 #[derive(Clone, Copy, Drop)]
-pub struct Declaring<'m, 'a> {
+pub struct DeclaredGraph<'m, 'a> {
     pub document: &'a Value,
     pub metadata: &'m Metadata<'a>,
     pub linked: &'m Linked<'a>,
@@ -246,7 +246,7 @@ fn are_same(name: &str, other: &str) -> bool
     true
 }
 
-impl<'m, 'a> Declaring<'m, 'a> {
+impl<'m, 'a> DeclaredGraph<'m, 'a> {
     /// Returns the name of the package of a node, or the empty text if there is none.
     pub fn name(&self, node: usize) -> &'a str
         // The name is that of the package of the node.

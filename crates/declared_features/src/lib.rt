@@ -4,13 +4,13 @@
 
 mod declaring;
 mod entries;
-mod lacking;
 mod linking;
 mod manifests;
+mod missing_edges;
 mod requested;
 
-pub use declaring::{Declarations, Declaring, Row, rows_of};
+pub use declaring::{Declarations, DeclaredGraph, Row, rows_of};
 pub use entries::{FeatureEntry, entry_of};
-pub use lacking::{Lacking, first_filtered, first_lacking};
 pub use linking::{Described, RequestedFeatures, described_features};
-pub use manifests::{Declared, Feature, InDeclared, InManifest, Manifest, Refusal};
+pub use manifests::{Declared, DependencyError, Feature, Manifest, ManifestError, Refusal};
+pub use missing_edges::{MissingEdge, first_filtered, first_missing_edge};

@@ -13,7 +13,7 @@ ghost use Rattle.declared_features.specs.Requests.{toml_name, IsDefault, IsReque
 ghost use Rattle.cargo_metadata.specs.Indexes.{index_at};
 ghost use Rattle.declared_features.specs.Inside.Names.{index_in, AreNamesOf};
 
-use crate::declaring::{Declarations, Declaring, Row, rows_of};
+use crate::declaring::{Declarations, DeclaredGraph, Row, rows_of};
 use crate::entries::FeatureEntry;
 use crate::manifests::{Declared, Manifest};
 use crate::requested::activation_root;
@@ -195,7 +195,7 @@ fn named_of<'a>(
 /// Returns the dependencies that the package of a node declares and that are in the graph.
 fn dependencies_of<'a>(
     alloc: Global,
-    graph: &Declaring<'_, 'a>,
+    graph: &DeclaredGraph<'_, 'a>,
     names: &Names<'a>,
     node: usize,
 ) -> Result<Vec<Named<'a>>, AllocError>
@@ -385,7 +385,7 @@ fn unnamed(
 /// Returns what the features of the package of a node list. The last feature of a root lists what is requested of it.
 fn lists_of<'a>(
     alloc: Global,
-    graph: &Declaring<'_, 'a>,
+    graph: &DeclaredGraph<'_, 'a>,
     lists: &Lists<'_, 'a>,
     unit: &Unit,
     requested: &RequestedFeatures<'a>,
@@ -424,7 +424,7 @@ fn requests_of_root(alloc: Global, is_root: bool, count: usize) -> Result<Vec<us
 /// the linked package. The last feature of a root lists what is requested of it.
 fn described_package<'a>(
     alloc: Global,
-    graph: &Declaring<'_, 'a>,
+    graph: &DeclaredGraph<'_, 'a>,
     names: &Names<'a>,
     node: usize,
     requested: &RequestedFeatures<'a>,
@@ -478,7 +478,7 @@ fn add_activation_root(
 /// Returns the packages of a graph, as input of the feature resolver. Fails only if memory is refused.
 pub fn described_features<'a>(
     alloc: Global,
-    graph: &Declaring<'_, 'a>,
+    graph: &DeclaredGraph<'_, 'a>,
     requested: &RequestedFeatures<'a>,
 ) -> Result<Described, AllocError>
     // The package of each node has the dependencies that the document declares and that have edges, and each of its

@@ -56,7 +56,7 @@ pub struct Manifest<'a> {
 
 /// The reason why a declared dependency is refused.
 #[derive(Debug, Drop)]
-pub enum InDeclared {
+pub enum DependencyError {
     Field(Wrong),
     /// The feature at this index is not a text.
     Feature(usize),
@@ -65,10 +65,10 @@ pub enum InDeclared {
 
 /// The reason why the declarations of a package are refused.
 #[derive(Debug, Drop)]
-pub enum InManifest {
+pub enum ManifestError {
     Field(Wrong),
     /// The dependency at this index is refused.
-    Dependency(usize, InDeclared),
+    Dependency(usize, DependencyError),
     Memory(AllocError),
 }
 
@@ -77,27 +77,27 @@ pub enum InManifest {
 pub enum Refusal {
     Field(Wrong),
     /// The declarations of the package at this index are refused.
-    Package(usize, InManifest),
+    Package(usize, ManifestError),
     Memory(AllocError),
 }
 
 /// Returns the features that a declared dependency requests.
-fn requested_of<'a>(alloc: Global, value: &'a Value) -> Result<Vec<&'a str>, InDeclared>
+fn requested_of<'a>(alloc: Global, value: &'a Value) -> Result<Vec<&'a str>, DependencyError>
     ensures features { IfOk result (λ features. AreRowsAt IsText (codes "features") (view value.now) features.items) }
     ensures fault { IfErr result (λ fault. All (Fits (view value.now)) (fields_of_subject ++ fields_of_flags)
         → IsInDeclared (view value.now) fault) }
 {
     let items = match wanted_list(value, "features") {
         Ok(items) => items,
-        Err(wrong) => return Err(InDeclared::Field(wrong)),
+        Err(wrong) => return Err(DependencyError::Field(wrong)),
     };
     let mut features = Vec::new(alloc);
     'features: for i in 0..items.len() {
         let Some(text) = items[i].as_str() else {
-            return Err(InDeclared::Feature(i));
+            return Err(DependencyError::Feature(i));
         };
         if let Err(error) = features.push(text) {
-            return Err(InDeclared::Memory(AllocError::from(error)));
+            return Err(DependencyError::Memory(AllocError::from(error)));
         }
     }
     Ok(features)
@@ -128,17 +128,17 @@ fn subject_of<'a>(value: &'a Value) -> Result<(&'a str, Kind, Option<&'a str>), 
 }
 
 /// Reads a declared dependency from an object.
-fn declared_of<'a>(alloc: Global, value: &'a Value) -> Result<Declared<'a>, InDeclared>
+fn declared_of<'a>(alloc: Global, value: &'a Value) -> Result<Declared<'a>, DependencyError>
     ensures { MatchResult result (λ declared. IsDeclared (view value.now) declared)
         (λ fault. IsInDeclared (view value.now) fault) }
 {
     let (name, kind, condition) = match subject_of(value) {
         Ok(subject) => subject,
-        Err(wrong) => return Err(InDeclared::Field(wrong)),
+        Err(wrong) => return Err(DependencyError::Field(wrong)),
     };
     let (is_optional, uses_default) = match flags_of(value) {
         Ok(flags) => flags,
-        Err(wrong) => return Err(InDeclared::Field(wrong)),
+        Err(wrong) => return Err(DependencyError::Field(wrong)),
     };
     let features = requested_of(alloc, value)?;
     let rename = text_at(value, "rename");
@@ -245,31 +245,31 @@ fn features_of<'a>(alloc: Global, value: &'a Value) -> Result<Option<Vec<Feature
 }
 
 /// Returns the dependencies that a package declares.
-fn dependencies_of<'a>(alloc: Global, value: &'a Value) -> Result<Vec<Declared<'a>>, InManifest>
+fn dependencies_of<'a>(alloc: Global, value: &'a Value) -> Result<Vec<Declared<'a>>, ManifestError>
     ensures { MatchResult result
         (λ dependencies. AreRowsAt IsDeclared (codes "dependencies") (view value.now) dependencies.items)
         (λ fault. IsInManifest (view value.now) fault) }
 {
     let items = match wanted_list(value, "dependencies") {
         Ok(items) => items,
-        Err(wrong) => return Err(InManifest::Field(wrong)),
+        Err(wrong) => return Err(ManifestError::Field(wrong)),
     };
     let mut dependencies = Vec::new(alloc);
     'dependencies: for i in 0..items.len() {
         match declared_of(alloc, &items[i]) {
             Ok(declared) => {
                 if let Err(error) = dependencies.push(declared) {
-                    return Err(InManifest::Memory(AllocError::from(error)));
+                    return Err(ManifestError::Memory(AllocError::from(error)));
                 }
             }
-            Err(wrong) => return Err(InManifest::Dependency(i, wrong)),
+            Err(wrong) => return Err(ManifestError::Dependency(i, wrong)),
         }
     }
     Ok(dependencies)
 }
 
 /// Reads the declarations of a package from an object.
-fn manifest_of<'a>(alloc: Global, value: &'a Value) -> Result<Manifest<'a>, InManifest>
+fn manifest_of<'a>(alloc: Global, value: &'a Value) -> Result<Manifest<'a>, ManifestError>
     ensures { MatchResult result (λ manifest. IsManifest (view value.now) manifest)
         (λ fault. IsInManifest (view value.now) fault) }
 {
@@ -277,12 +277,12 @@ fn manifest_of<'a>(alloc: Global, value: &'a Value) -> Result<Manifest<'a>, InMa
     let features = match features_of(alloc, value) {
         Ok(Some(features)) => features,
         Ok(None) => {
-            return Err(InManifest::Field(Wrong {
+            return Err(ManifestError::Field(Wrong {
                 field: "features",
                 wanted: Wanted::Features,
             }));
         }
-        Err(error) => return Err(InManifest::Memory(error)),
+        Err(error) => return Err(ManifestError::Memory(error)),
     };
     Ok(Manifest {
         library: library_of(value),
@@ -319,22 +319,22 @@ pub fn read_manifests<'a>(alloc: Global, document: &'a Value) -> Result<Vec<Mani
     Ok(manifests)
 }
 
-impl Display for InDeclared {
+impl Display for DependencyError {
     fn fmt<W: Write>(&self, f: &mut Formatter<W>) -> fmt::Result {
         match self {
-            InDeclared::Field(wrong) => write!(f, ".{wrong}"),
-            InDeclared::Feature(i) => write!(f, ".features[{i}]: {}", Wanted::Text),
-            InDeclared::Memory(error) => write!(f, ": {error}"),
+            DependencyError::Field(wrong) => write!(f, ".{wrong}"),
+            DependencyError::Feature(i) => write!(f, ".features[{i}]: {}", Wanted::Text),
+            DependencyError::Memory(error) => write!(f, ": {error}"),
         }
     }
 }
 
-impl Display for InManifest {
+impl Display for ManifestError {
     fn fmt<W: Write>(&self, f: &mut Formatter<W>) -> fmt::Result {
         match self {
-            InManifest::Field(wrong) => write!(f, ".{wrong}"),
-            InManifest::Dependency(i, wrong) => write!(f, ".dependencies[{i}]{wrong}"),
-            InManifest::Memory(error) => write!(f, ": {error}"),
+            ManifestError::Field(wrong) => write!(f, ".{wrong}"),
+            ManifestError::Dependency(i, wrong) => write!(f, ".dependencies[{i}]{wrong}"),
+            ManifestError::Memory(error) => write!(f, ": {error}"),
         }
     }
 }

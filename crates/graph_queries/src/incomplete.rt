@@ -3,14 +3,16 @@
 use crate::lines::{shown, shown_package};
 use crate::refused::COMMAND;
 use cargo_features::Resolved;
-use declared_features::{Declaring, Lacking, RequestedFeatures, first_filtered, first_lacking};
+use declared_features::{
+    DeclaredGraph, MissingEdge, RequestedFeatures, first_filtered, first_missing_edge,
+};
 use std::alloc::{AllocError, Global};
 
 /// Returns what lacks: the package, and its dependency by the name in its manifest.
 fn shown_lack(
     alloc: Global,
-    graph: &Declaring<'_, '_>,
-    lacking: &Lacking<'_, '_>,
+    graph: &DeclaredGraph<'_, '_>,
+    lacking: &MissingEdge<'_, '_>,
 ) -> Result<String, AllocError> {
     let package = match graph.linked.described.get(lacking.node) {
         Some(described) => shown_package(alloc, described)?,
@@ -24,7 +26,7 @@ fn shown_lack(
 /// Returns why a document is rejected, if `--filter-platform` made it.
 pub fn filtered_reason(
     alloc: Global,
-    graph: &Declaring<'_, '_>,
+    graph: &DeclaredGraph<'_, '_>,
 ) -> Result<Option<String>, AllocError> {
     let Some(lacking) = first_filtered(alloc, graph)? else {
         return Ok(None);
@@ -39,11 +41,11 @@ pub fn filtered_reason(
 /// Returns why a document is rejected, if it was made with fewer features than the selected ones.
 pub fn lacking_reason<'a>(
     alloc: Global,
-    graph: &Declaring<'_, 'a>,
+    graph: &DeclaredGraph<'_, 'a>,
     resolved: &Resolved,
     query: &RequestedFeatures<'a>,
 ) -> Result<Option<String>, AllocError> {
-    let Some(lacking) = first_lacking(alloc, graph, resolved, query)? else {
+    let Some(lacking) = first_missing_edge(alloc, graph, resolved, query)? else {
         return Ok(None);
     };
     let lack = shown_lack(alloc, graph, &lacking)?;

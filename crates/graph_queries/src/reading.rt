@@ -10,7 +10,7 @@ use cargo_metadata::fields::text_at;
 use cargo_metadata::graphs::{Linked, link};
 use cargo_metadata::{Metadata, read};
 use cargo_platform::shown_text;
-use declared_features::{Declarations, Declaring, Refusal as Undeclared};
+use declared_features::{Declarations, DeclaredGraph, Refusal as Undeclared};
 use key_answers::answer::{Refusal, unusable};
 use key_answers::printing::shown_name;
 use serde_json::{Error, Value};
@@ -183,8 +183,8 @@ impl<'a> Input<'a> {
     }
 
     /// Returns the graph with what its packages declare.
-    fn with<'m>(&'m self, declared: &'m Declarations<'a>) -> Declaring<'m, 'a> {
-        Declaring {
+    fn with<'m>(&'m self, declared: &'m Declarations<'a>) -> DeclaredGraph<'m, 'a> {
+        DeclaredGraph {
             document: self.document,
             metadata: &self.metadata,
             linked: &self.linked,
@@ -193,7 +193,7 @@ impl<'a> Input<'a> {
     }
 
     /// Returns the graph with what its packages declare. Rejects a document that does not say it.
-    pub fn declaring(&self, alloc: Global) -> Result<Declaring<'_, 'a>, Rejected> {
+    pub fn declaring(&self, alloc: Global) -> Result<DeclaredGraph<'_, 'a>, Rejected> {
         match &self.declared {
             Ok(declared) => Ok(self.with(declared)),
             Err(refusal) => Err(Rejected::Document(format!(in alloc; "{refusal}")?)),

@@ -3,7 +3,7 @@
 
 use crate::lines::{shown, shown_package};
 use crate::reading::Rejected;
-use declared_features::{Declaring, Manifest, RequestedFeatures};
+use declared_features::{DeclaredGraph, Manifest, RequestedFeatures};
 use key_answers::printing::shown_name;
 use std::alloc::{AllocError, Global};
 
@@ -25,7 +25,7 @@ const NO_CURRENT: &str =
     "resolver 1 gives the features to the package of the current directory, and `resolve.root` names none";
 
 /// Returns the node of the package of the current directory.
-pub fn current_node(alloc: Global, graph: &Declaring<'_, '_>) -> Result<usize, Rejected> {
+pub fn current_node(alloc: Global, graph: &DeclaredGraph<'_, '_>) -> Result<usize, Rejected> {
     if let Some(resolve) = graph.document.get("resolve") {
         if let Some(id) = cargo_metadata::fields::text_at(resolve, "root") {
             for i in 0..graph.metadata.nodes.len() {
@@ -40,7 +40,7 @@ pub fn current_node(alloc: Global, graph: &Declaring<'_, '_>) -> Result<usize, R
 
 /// Returns the root and its feature that a text `root/feature` names, of a root that is not the current package.
 fn of_other<'a>(
-    graph: &Declaring<'_, '_>,
+    graph: &DeclaredGraph<'_, '_>,
     current: usize,
     text: &'a str,
 ) -> Option<(&'a str, &'a str)> {
@@ -60,7 +60,7 @@ pub fn split_by_root<'a>(
     alloc: Global,
     names: Vec<&'a str>,
     current: Option<usize>,
-    graph: &Declaring<'_, '_>,
+    graph: &DeclaredGraph<'_, '_>,
 ) -> Result<(Vec<&'a str>, Vec<(&'a str, &'a str)>), AllocError> {
     let mut of_others = Vec::new(alloc);
     let Some(node) = current else {
@@ -101,7 +101,7 @@ fn has_feature(package: Option<&str>, manifest: &Manifest<'_>, name: &str) -> bo
 }
 
 /// Returns whether the package of a node has a feature of this name.
-fn has(graph: &Declaring<'_, '_>, node: usize, package: Option<&str>, feature: &str) -> bool {
+fn has(graph: &DeclaredGraph<'_, '_>, node: usize, package: Option<&str>, feature: &str) -> bool {
     match graph.declared.manifest(node) {
         Some(manifest) => has_feature(package, manifest, feature),
         None => false,
@@ -109,7 +109,7 @@ fn has(graph: &Declaring<'_, '_>, node: usize, package: Option<&str>, feature: &
 }
 
 /// Returns whether some root has a feature.
-fn some_root_has(graph: &Declaring<'_, '_>, feature: &str) -> bool {
+fn some_root_has(graph: &DeclaredGraph<'_, '_>, feature: &str) -> bool {
     for node in 0..graph.linked.packages.len() {
         if graph.linked.packages[node].is_root
             && has(graph, node, Some(graph.name(node)), feature)
@@ -121,7 +121,7 @@ fn some_root_has(graph: &Declaring<'_, '_>, feature: &str) -> bool {
 }
 
 /// Returns whether a package of this name has a feature.
-fn named_has(graph: &Declaring<'_, '_>, name: &str, feature: &str) -> bool {
+fn named_has(graph: &DeclaredGraph<'_, '_>, name: &str, feature: &str) -> bool {
     for node in 0..graph.linked.packages.len() {
         if graph.name(node) == name && has(graph, node, None, feature) {
             return true;
@@ -133,7 +133,7 @@ fn named_has(graph: &Declaring<'_, '_>, name: &str, feature: &str) -> bool {
 /// Returns the package of the current directory as it is shown.
 fn shown_current(
     alloc: Global,
-    graph: &Declaring<'_, '_>,
+    graph: &DeclaredGraph<'_, '_>,
     node: usize,
 ) -> Result<String, AllocError> {
     let Some(described) = graph.linked.described.get(node) else {
@@ -155,7 +155,7 @@ fn no_feature(alloc: Global, package: &str, feature: &str) -> Result<String, All
 /// not exist.
 fn unknown_reason(
     alloc: Global,
-    graph: &Declaring<'_, '_>,
+    graph: &DeclaredGraph<'_, '_>,
     current: Option<usize>,
     feature: &str,
 ) -> Result<Option<String>, AllocError> {
@@ -175,7 +175,7 @@ fn unknown_reason(
 /// Rejects a requested feature that does not exist.
 pub fn reject_unknown(
     alloc: Global,
-    graph: &Declaring<'_, '_>,
+    graph: &DeclaredGraph<'_, '_>,
     features: &RequestedFeatures<'_>,
 ) -> Result<(), Rejected> {
     for (root, feature) in features.of_others {

@@ -12,7 +12,7 @@ use Rattle.cargo_metadata.proofs.Elements.{list_fits, wrong_second}
 use Rattle.declared_features.specs.Documents.{IsDeclared}
 use Rattle.declared_features.specs.Refusals.{IsInManifest}
 use Rattle.declared_features.specs.declared.manifests.Declared.{Declared}
-use Rattle.declared_features.specs.declared.manifests.InManifest.TheVariants as in_manifest
+use Rattle.declared_features.specs.declared.manifests.ManifestError.TheVariants as in_manifest
 use Rattle.declared_features.proofs.manifests.manifest_of.Goals as goal
 
 -- the error in the features, after dependencies that were read

@@ -1,6 +1,6 @@
 //! Declared dependencies that are on and have no edge. The document was filtered, or made with too few features.
 
-use crate::declaring::{Declarations, Declaring, rows_of};
+use crate::declaring::{Declarations, DeclaredGraph, rows_of};
 use crate::entries::FeatureEntry;
 use crate::linking::{RequestedFeatures, toml_name};
 use crate::manifests::{Declared, Manifest};
@@ -13,7 +13,7 @@ use std::collections::BTreeSet;
 
 /// A declared dependency that has no edge, and the index of the node whose package declares it.
 #[derive(Clone, Copy, Drop)]
-pub struct Lacking<'m, 'a> {
+pub struct MissingEdge<'m, 'a> {
     pub node: usize,
     pub declared: &'m Declared<'a>,
 }
@@ -104,7 +104,7 @@ fn kept_conditions<'a>(
 /// Returns the keys of the edges of a node that have a condition.
 fn keys_of<'a>(
     alloc: Global,
-    graph: &Declaring<'_, 'a>,
+    graph: &DeclaredGraph<'_, 'a>,
     node: usize,
 ) -> Result<BTreeSet<Key<'a>>, AllocError> {
     let mut keys = BTreeSet::new(alloc);
@@ -150,7 +150,7 @@ impl<'m, 'a> Kept<'m, 'a> {
     fn first_of(
         &self,
         alloc: Global,
-        graph: &Declaring<'m, 'a>,
+        graph: &DeclaredGraph<'m, 'a>,
         node: usize,
         manifest: &'m Manifest<'a>,
     ) -> Result<Option<&'m Declared<'a>>, AllocError> {
@@ -177,8 +177,8 @@ impl<'m, 'a> Kept<'m, 'a> {
 /// condition and has no edge. It refuses only where memory is refused.
 pub fn first_filtered<'m, 'a>(
     alloc: Global,
-    graph: &Declaring<'m, 'a>,
-) -> Result<Option<Lacking<'m, 'a>>, AllocError> {
+    graph: &DeclaredGraph<'m, 'a>,
+) -> Result<Option<MissingEdge<'m, 'a>>, AllocError> {
     let kept = Kept {
         conditions: kept_conditions(alloc, graph.metadata)?,
         declared: graph.declared,
@@ -188,7 +188,7 @@ pub fn first_filtered<'m, 'a>(
             continue;
         };
         if let Some(declared) = kept.first_of(alloc, graph, node, manifest)? {
-            return Ok(Some(Lacking { node, declared }));
+            return Ok(Some(MissingEdge { node, declared }));
         }
     }
     Ok(None)
@@ -222,7 +222,7 @@ fn on_as_resolved<'a>(
 /// Returns the optional dependencies of a node that are on as resolved, and not on in the document.
 fn newly_on<'a>(
     alloc: Global,
-    graph: &Declaring<'_, 'a>,
+    graph: &DeclaredGraph<'_, 'a>,
     node: usize,
     resolved: &Resolved,
     requested: &RequestedFeatures<'a>,
@@ -251,7 +251,7 @@ fn newly_on<'a>(
 /// Returns whether a declared dependency of a node has an edge.
 fn has_edge<'a>(
     alloc: Global,
-    graph: &Declaring<'_, 'a>,
+    graph: &DeclaredGraph<'_, 'a>,
     node: usize,
     declared: &Declared<'a>,
 ) -> Result<bool, AllocError> {
@@ -265,12 +265,12 @@ fn has_edge<'a>(
 
 /// Returns the first dependency that is on by the resolved features, was not on in the document, and has no edge: the
 /// document was made with too few features. It refuses only where memory is refused.
-pub fn first_lacking<'m, 'a>(
+pub fn first_missing_edge<'m, 'a>(
     alloc: Global,
-    graph: &Declaring<'m, 'a>,
+    graph: &DeclaredGraph<'m, 'a>,
     resolved: &Resolved,
     requested: &RequestedFeatures<'a>,
-) -> Result<Option<Lacking<'m, 'a>>, AllocError> {
+) -> Result<Option<MissingEdge<'m, 'a>>, AllocError> {
     for node in 0..graph.metadata.nodes.len() {
         let Some(manifest) = graph.declared.manifest(node) else {
             continue;
@@ -282,7 +282,7 @@ pub fn first_lacking<'m, 'a>(
                 && !graph.declared.has_no_library(declared)
                 && !has_edge(alloc, graph, node, declared)?
             {
-                return Ok(Some(Lacking { node, declared }));
+                return Ok(Some(MissingEdge { node, declared }));
             }
         }
     }
