@@ -5,7 +5,8 @@ use crate::keys::TableKind;
 use crate::licence_table::read_licences;
 use crate::reader::Reader;
 use diagnostics::{
-    Diagnostic, LintLevel, EmittedDiagnostic, diagnostic_of_failure, diagnostic_of_syntax, push_rendered,
+    Diagnostic, EmittedDiagnostic, LintLevel, diagnostic_of_failure, diagnostic_of_syntax,
+    push_rendered,
 };
 use input_limits::without_mark;
 use licence_audits::{Exception, PackageSpec};
