@@ -1,7 +1,7 @@
 //! Answers found by trying all sets of facts, one by one, with which decisions and exact answers are compared.
 
 use cargo_platform::{Cfg, CfgExpr, Facts, Listed, Platform};
-use exact_answers::Known;
+use exact_answers::FactConstraints;
 use std::alloc::{AllocError, Global};
 use test_rows::Fault;
 
@@ -137,7 +137,7 @@ fn are_rivals(a: &Cfg, b: &Cfg) -> bool {
 }
 
 /// Returns whether a fact may be in a set with the others of the set.
-fn may_stand(known: &Known<'_>, fact: &Cfg, set: &[Cfg]) -> bool {
+fn may_stand(known: &FactConstraints<'_>, fact: &Cfg, set: &[Cfg]) -> bool {
     let is_listed = has(known.facts, fact);
     if is_among(name_of(fact), known.complete) && !is_listed {
         return false;
@@ -154,7 +154,7 @@ fn may_stand(known: &Known<'_>, fact: &Cfg, set: &[Cfg]) -> bool {
 }
 
 /// Returns whether the set is possible, by the definition on the pages.
-fn is_possible(known: &Known<'_>, set: &[Cfg]) -> bool {
+fn is_possible(known: &FactConstraints<'_>, set: &[Cfg]) -> bool {
     for fact in known.facts {
         if !has(set, fact) {
             return false;
@@ -192,7 +192,7 @@ impl<'a> Question<'a> {
 
     /// Returns whether a target with this name, or with one that is in neither condition, is possible and is such an
     /// example.
-    pub fn is_found(&self, known: &Known<'_>, name: Option<&str>, set: &[Cfg]) -> bool {
+    pub fn is_found(&self, known: &FactConstraints<'_>, name: Option<&str>, set: &[Cfg]) -> bool {
         is_possible(known, set) && self.is_sought(name.unwrap_or(OTHER), set)
     }
 
@@ -209,7 +209,7 @@ impl<'a> Question<'a> {
     }
 
     /// Returns the listed facts, and the pairs of the conditions and of the assumption.
-    fn pairs(&self, alloc: Global, known: &Known<'_>) -> Result<Vec<Cfg>, Fault> {
+    fn pairs(&self, alloc: Global, known: &FactConstraints<'_>) -> Result<Vec<Cfg>, Fault> {
         let mut pairs = Vec::new(alloc);
         for fact in known.facts {
             add(alloc, fact, &mut pairs)?;
@@ -224,7 +224,7 @@ impl<'a> Question<'a> {
     }
 
     /// Returns whether a possible target is such an example.
-    pub fn is_met(&self, alloc: Global, known: &Known<'_>) -> Result<bool, Fault> {
+    pub fn is_met(&self, alloc: Global, known: &FactConstraints<'_>) -> Result<bool, Fault> {
         let pairs = self.pairs(alloc, known)?;
         for bits in 0..sets_of(pairs.len())? {
             let set = with_bits(alloc, &[], &pairs, bits)?;

@@ -4,7 +4,7 @@ use crate::all_sets::Question;
 use crate::row_facts;
 use cargo_platform::{Cfg, CfgExpr, Platform};
 use exact_answers::{
-    CanHold, CanSelect, Known, MustHold, MustSelect, ONE_VALUED, PossibleTarget, always,
+    CanHold, CanSelect, FactConstraints, MustHold, MustSelect, ONE_VALUED, PossibleTarget, always,
     always_platform, can_be_met, can_hold, can_hold_platform, equivalent, equivalent_platform,
     exclude, exclude_platform, family_rule, implies, implies_platform,
 };
@@ -25,8 +25,8 @@ struct Held<'a> {
 }
 
 impl<'a> Held<'a> {
-    fn known(&self) -> Known<'_> {
-        Known {
+    fn known(&self) -> FactConstraints<'_> {
+        FactConstraints {
             facts: &self.facts,
             complete: &self.complete,
             single: &self.single,
@@ -94,7 +94,7 @@ pub fn answer(alloc: Global, call: &str, fields: &mut Fields<'_>) -> Result<Stri
 fn answered(
     alloc: Global,
     question: &Question<'_>,
-    known: &Known<'_>,
+    known: &FactConstraints<'_>,
     budget: u64,
     more: &str,
 ) -> Result<String, Fault> {
@@ -112,7 +112,7 @@ fn answered(
 fn within(
     alloc: Global,
     question: &Question<'_>,
-    known: &Known<'_>,
+    known: &FactConstraints<'_>,
     budget: u64,
     more: &str,
 ) -> Result<String, Fault> {
@@ -169,7 +169,7 @@ enum Found {
 fn of_facts(
     alloc: Global,
     question: &Question<'_>,
-    known: &Known<'_>,
+    known: &FactConstraints<'_>,
     budget: u64,
 ) -> Result<Found, Fault> {
     let (Platform::Cfg(a), Platform::Cfg(b)) = (&question.first, &question.second) else {
@@ -205,7 +205,11 @@ fn counterexample(answer: MustHold) -> Found {
     }
 }
 
-fn of_targets(alloc: Global, question: &Question<'_>, known: &Known<'_>) -> Result<Found, Fault> {
+fn of_targets(
+    alloc: Global,
+    question: &Question<'_>,
+    known: &FactConstraints<'_>,
+) -> Result<Found, Fault> {
     let (a, b) = (&question.first, &question.second);
     let answer = match question.kind {
         "can" => {
@@ -232,7 +236,7 @@ fn of_targets(alloc: Global, question: &Question<'_>, known: &Known<'_>) -> Resu
 fn judged(
     alloc: Global,
     question: &Question<'_>,
-    known: &Known<'_>,
+    known: &FactConstraints<'_>,
     found: &Found,
     more: &str,
 ) -> Result<String, Fault> {
@@ -270,7 +274,11 @@ fn shown(alloc: Global, target: &PossibleTarget) -> Result<String, Fault> {
 }
 
 /// Returns the smallest budget that decides the question, and the answer, which the next budgets give too.
-fn least(alloc: Global, question: &Question<'_>, known: &Known<'_>) -> Result<String, Fault> {
+fn least(
+    alloc: Global,
+    question: &Question<'_>,
+    known: &FactConstraints<'_>,
+) -> Result<String, Fault> {
     let mut before = word(alloc, "undecided")?;
     let mut least = 0u64;
     for budget in 0..20u64 {
