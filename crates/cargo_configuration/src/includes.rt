@@ -116,7 +116,7 @@ fn read_configuration<R: Files + Input + AllocGlobal>(
     match read_manifest(rt, path, limit) {
         Ok(configuration) => Ok(configuration),
         Err(error) => {
-            let unusable = error.unusable(rt.alloc())?;
+            let unusable = error.into_input_error(rt.alloc())?;
             Err(Refusal::Unusable(unusable.line(rt.alloc())?))
         }
     }

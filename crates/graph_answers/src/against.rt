@@ -9,7 +9,7 @@ use graph_queries::query::GraphQuery;
 use key_answers::answer::{Answer, Refusal, Status, unusable_words};
 use key_answers::json_lines;
 use key_answers::printing::shown_name;
-use key_answers::targets::TargetNames;
+use key_answers::targets::TargetList;
 use known_targets::TargetSet;
 use serde::Serialize;
 use std::alloc::{AllocError, Global};
@@ -27,11 +27,11 @@ struct ChangeLine<'c, 'd, 'a> {
     /// The number of targets in `at`.
     targets: usize,
     /// The selected targets on which the package is in the build.
-    at: TargetNames<'a>,
+    at: TargetList<'a>,
     /// The selected targets on which it is in the build, and was not before.
-    gained: TargetNames<'a>,
+    gained: TargetList<'a>,
     /// The selected targets on which it was in the build before, and is not.
-    lost: TargetNames<'a>,
+    lost: TargetList<'a>,
     /// The licence expression of the package.
     license: Option<&'d str>,
     /// The licence expression before.

@@ -13,7 +13,7 @@ use graph_queries::reading::Rejected;
 use graph_queries::sides::side_word;
 use key_answers::answer::{Answer, Status};
 use key_answers::json_lines;
-use key_answers::targets::TargetNames;
+use key_answers::targets::TargetList;
 use known_targets::TargetSet;
 use serde_json::Value;
 use std::alloc::{AllocError, Global};
@@ -198,8 +198,8 @@ fn targets_value(
     targets: TargetSet,
 ) -> Result<String, AllocError> {
     match query.at(alloc, targets)? {
-        TargetNames::All(_) => String::from_str(alloc, "all"),
-        TargetNames::Names(names) => joined(alloc, &names),
+        TargetList::All(_) => String::from_str(alloc, "all"),
+        TargetList::Names(names) => joined(alloc, &names),
     }
 }
 

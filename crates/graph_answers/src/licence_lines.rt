@@ -6,7 +6,7 @@ use crate::graph::Graph;
 use crate::licence_report::{LicenceReport, Reason};
 use crate::packages::name_and_version;
 use key_answers::json_lines;
-use key_answers::targets::TargetNames;
+use key_answers::targets::TargetList;
 use licence_audits::Finding;
 use serde::Serialize;
 use std::alloc::{AllocError, Global};
@@ -26,7 +26,7 @@ struct LicenceLine<'a> {
     /// The number of targets in `at`.
     targets: usize,
     /// The selected targets on which the package is in the build.
-    at: TargetNames<'a>,
+    at: TargetList<'a>,
     /// The ids of the packages on a shortest dependency path from a root to this package, on the first of these
     /// targets. Null if features are resolved, and they do not use this path.
     path: Option<Vec<&'a str>>,

@@ -9,7 +9,7 @@ use graph_queries::origins::origins_of;
 use graph_queries::query::GraphQuery;
 use key_answers::answer::{Answer, Status};
 use key_answers::json_lines;
-use key_answers::targets::TargetNames;
+use key_answers::targets::TargetList;
 use selected_targets::ConditionSearch;
 use serde::Serialize;
 use std::alloc::{AllocError, Global};
@@ -43,7 +43,7 @@ struct EdgeLine<'g, 'c, 'a> {
     /// The number of targets in `at`.
     targets: usize,
     /// The selected targets on which the dependency is followed.
-    at: TargetNames<'a>,
+    at: TargetList<'a>,
     /// The sides to which the dependency leads. One of `target`, `host` and `both`. Null if none.
     side: Option<&'static str>,
     /// The sides from which the dependency leads, each with the side to which it leads from there.

@@ -8,7 +8,7 @@ use graph_queries::query::GraphQuery;
 use graph_queries::sides::{is_selected, side_note, side_word};
 use key_answers::answer::{Answer, Status};
 use key_answers::json_lines;
-use key_answers::targets::TargetNames;
+use key_answers::targets::TargetList;
 use known_targets::TargetSet;
 use package_graphs::Side;
 use serde::Serialize;
@@ -27,7 +27,7 @@ struct FeatureLine<'g, 'f, 'a> {
     /// The number of targets in `at`.
     targets: usize,
     /// The selected targets on which the feature is on.
-    at: TargetNames<'a>,
+    at: TargetList<'a>,
 }
 
 /// A feature of a package that is on for a side, with the selected targets on which it is.

@@ -3,7 +3,7 @@
 use graph_queries::origins::DependencyOrigin;
 use graph_queries::query::GraphQuery;
 use graph_queries::sides::side_word;
-use key_answers::targets::TargetNames;
+use key_answers::targets::TargetList;
 use known_targets::TargetSet;
 use serde::Serialize;
 use std::alloc::{AllocError, Global};
@@ -21,7 +21,7 @@ pub struct Origin<'a> {
     /// The selected targets on which the dependency leads from this side. Absent if these are all targets of the
     /// dependency.
     #[serde(skip_serializing_if = "Option::is_none")]
-    at: Option<TargetNames<'a>>,
+    at: Option<TargetList<'a>>,
 }
 
 /// Returns the origins of a dependency that is followed on the targets of `all`, from the sides from which it leads.

@@ -10,7 +10,7 @@ use graph_queries::query::GraphQuery;
 use graph_queries::reasons::{Reason, Reasons};
 use key_answers::answer::{Answer, Status};
 use key_answers::json_lines;
-use key_answers::targets::TargetNames;
+use key_answers::targets::TargetList;
 use known_targets::{KnownTarget, TargetSet};
 use serde::Serialize;
 use std::alloc::{AllocError, Global};
@@ -26,7 +26,7 @@ struct PackageLine<'g, 'a> {
     /// The number of targets in `at`.
     targets: usize,
     /// The selected targets on which the package is in the build.
-    at: TargetNames<'a>,
+    at: TargetList<'a>,
     /// The sides for which the package is built. One of `target`, `host` and `both`. Null if none.
     side: Option<&'static str>,
     /// The dependency kinds through which the package is reached. Each is one of `normal`, `build` and `dev`.

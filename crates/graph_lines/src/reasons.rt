@@ -3,7 +3,7 @@
 use graph_queries::lines::{push, shown_targets};
 use graph_queries::query::GraphQuery;
 use graph_queries::reasons::Reason;
-use key_answers::targets::TargetNames;
+use key_answers::targets::TargetList;
 use known_targets::TargetSet;
 use serde::Serialize;
 use std::alloc::{AllocError, Global};
@@ -35,7 +35,7 @@ pub struct LeftOut<'a> {
     /// The number of targets in `at`.
     targets: usize,
     /// The selected targets on which this is the reason.
-    at: TargetNames<'a>,
+    at: TargetList<'a>,
 }
 
 /// Returns the reasons why a package is left out, for a line of JSON, if features are resolved.

@@ -7,7 +7,7 @@ use graph_queries::lines::{joined_names, push, push_comma, shown_count};
 use graph_queries::query::GraphQuery;
 use key_answers::answer::{Answer, Status};
 use key_answers::json_lines;
-use key_answers::targets::TargetNames;
+use key_answers::targets::TargetList;
 use known_targets::TargetSet;
 use serde::Serialize;
 use std::alloc::{AllocError, Global};
@@ -22,7 +22,7 @@ struct ClassLine<'g, 'c, 'a> {
     /// The number of targets in `at`.
     targets: usize,
     /// The selected targets of the class.
-    at: TargetNames<'a>,
+    at: TargetList<'a>,
     /// The ids of the packages that are in the build on the targets of the class.
     packages: Vec<&'g str>,
 }

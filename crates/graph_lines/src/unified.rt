@@ -8,7 +8,7 @@ use graph_queries::query::GraphQuery;
 use graph_queries::sides::{is_selected, side_note, side_word};
 use key_answers::answer::{Answer, Status};
 use key_answers::json_lines;
-use key_answers::targets::TargetNames;
+use key_answers::targets::TargetList;
 use known_targets::{TargetSet, classes};
 use package_graphs::Side;
 use serde::Serialize;
@@ -37,7 +37,7 @@ struct UnifiedLine<'g, 'l, 'f, 'a> {
     /// The number of targets in `at`.
     targets: usize,
     /// The selected targets on which the package is built with these features.
-    at: TargetNames<'a>,
+    at: TargetList<'a>,
 }
 
 /// Returns the names of the features of a package that are on for a side on some of these targets.

@@ -12,7 +12,7 @@ use graph_queries::query::GraphQuery;
 use key_answers::answer::{Answer, Status, answered, unusable};
 use key_answers::json_lines;
 use key_answers::printing::shown_name;
-use key_answers::targets::TargetNames;
+use key_answers::targets::TargetList;
 use known_targets::{KnownTarget, TargetSet};
 use package_graphs::{Step, shortest_path, shortest_path_on};
 use serde::Serialize;
@@ -45,7 +45,7 @@ struct PathLine<'g, 'a> {
     /// The number of targets in `at`.
     targets: usize,
     /// The selected targets on which this path is a shortest one.
-    at: TargetNames<'a>,
+    at: TargetList<'a>,
     /// The steps of the path, from a root on. Null if no path leads to the package.
     path: Option<Vec<PathStep<'g>>>,
 }

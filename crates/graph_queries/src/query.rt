@@ -3,7 +3,7 @@
 use key_answers::answer::Refusal;
 pub use key_answers::answer::unusable_words;
 use key_answers::printing::shown_name;
-use key_answers::targets::{AllTargets, TargetNames, names_of};
+use key_answers::targets::{AllTargets, TargetList, names_of};
 use known_targets::{COUNT, KnownTarget, RUSTC_VERSION, TargetSet};
 use package_graphs::{Kinds, Side};
 use selected_targets::{Groups, Selection};
@@ -342,11 +342,11 @@ impl<'a> GraphQuery<'a> {
     }
 
     /// Returns the targets of a set for a line of JSON: `all` if these are the selected targets, and else their names.
-    pub fn at(&self, alloc: Global, targets: TargetSet) -> Result<TargetNames<'a>, AllocError> {
+    pub fn at(&self, alloc: Global, targets: TargetSet) -> Result<TargetList<'a>, AllocError> {
         if targets.equals(self.targets) {
-            return Ok(TargetNames::All(AllTargets::All));
+            return Ok(TargetList::All(AllTargets::All));
         }
-        Ok(TargetNames::Names(self.names(alloc, targets)?))
+        Ok(TargetList::Names(self.names(alloc, targets)?))
     }
 
     /// Returns the names of targets, in the order of the known ones or of the file. Fails if memory is refused.

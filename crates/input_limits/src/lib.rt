@@ -8,5 +8,5 @@ mod texts;
 
 pub use keys::{KeyError, MOST_GROUPS, deep_at, deep_text, read_key};
 pub use texts::{
-    INPUT, LIMIT, Unusable, file_within, given_within, reason_of, text_within, without_mark,
+    INPUT, LIMIT, InputError, read_file, read_input, reason_of, read_text, strip_byte_order_mark,
 };

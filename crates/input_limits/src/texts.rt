@@ -18,25 +18,25 @@ pub const INPUT: &str = "-";
 
 /// An input that can't be used, and the reason, both as they are printed.
 #[derive(Drop)]
-pub struct Unusable {
+pub struct InputError {
     /// The file, or `None` if the reason is about no file.
     pub file: Option<String>,
     pub reason: String,
 }
 
-impl Unusable {
+impl InputError {
     /// Creates the error for a file that was read to this limit and rejected. `file` is its name as it is printed.
     pub fn refused(
         alloc: Global,
         file: String,
         error: &io::Error,
         limit: u64,
-    ) -> Result<Unusable, AllocError>
+    ) -> Result<InputError, AllocError>
         ensures file { IfOk result (λ unusable. unusable.file ≡ Some file) }
         ensures reason { IfOk result
             (λ unusable. IsReason (error_kind error.now) limit (string_bytes unusable.reason)) }
     {
-        Ok(Unusable {
+        Ok(InputError {
             file: Some(file),
             reason: reason_of(alloc, error, limit)?,
         })
@@ -71,7 +71,7 @@ fn text_of(bytes: Vec<u8>, limit: u64) -> io::Result<String>
 }
 
 /// Reads the whole text of a reader. Fails if it has more bytes than the limit, is not UTF-8, or can't be read.
-pub fn text_within<R: Read + Drop>(alloc: Global, reader: R, limit: u64) -> io::Result<String>
+pub fn read_text<R: Read + Drop>(alloc: Global, reader: R, limit: u64) -> io::Result<String>
     ensures within { IfOk result (λ text. string_len text ≤ limit) }
     ensures whole { IfOk result (λ text. IfSome (R.remaining reader) (λ left. string_bytes text ≡ left)) }
 {
@@ -82,15 +82,15 @@ pub fn text_within<R: Read + Drop>(alloc: Global, reader: R, limit: u64) -> io::
     text_of(bytes, limit)
 }
 
-/// Reads the file at a path as `text_within` does.
-pub fn file_within<R: Files + AllocGlobal>(rt: &R, path: &str, limit: u64) -> io::Result<String>
+/// Reads the file at a path as `read_text` does.
+pub fn read_file<R: Files + AllocGlobal>(rt: &R, path: &str, limit: u64) -> io::Result<String>
     ensures { IfOk result (λ text. string_len text ≤ limit) }
 {
-    text_within(rt.alloc(), File::open(rt, path)?, limit)
+    read_text(rt.alloc(), File::open(rt, path)?, limit)
 }
 
-/// Reads the file at a path, or standard input if the path is `-`, as `text_within` does.
-pub fn given_within<R: Files + Input + AllocGlobal>(
+/// Reads the file at a path, or standard input if the path is `-`, as `read_text` does.
+pub fn read_input<R: Files + Input + AllocGlobal>(
     rt: &R,
     path: &str,
     limit: u64,
@@ -98,14 +98,14 @@ pub fn given_within<R: Files + Input + AllocGlobal>(
     ensures { IfOk result (λ text. string_len text ≤ limit) }
 {
     if path == INPUT {
-        text_within(rt.alloc(), rt.reader(), limit)
+        read_text(rt.alloc(), rt.reader(), limit)
     } else {
-        file_within(rt, path, limit)
+        read_file(rt, path, limit)
     }
 }
 
 /// Returns the text without a byte order mark, which some editors write before it.
-pub fn without_mark(text: &str) -> &str
+pub fn strip_byte_order_mark(text: &str) -> &str
     ensures { IsUnmarked text.now result.now }
 {
     match text.strip_prefix("\u{FEFF}") {

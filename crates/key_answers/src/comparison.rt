@@ -2,7 +2,7 @@
 
 use crate::comparing::{ExactRelations, KnownTargetRelations, RELATIONS};
 use crate::json_lines;
-use crate::targets::{AllTargets, TargetNames, names_of};
+use crate::targets::{AllTargets, TargetList, names_of};
 use exact_answers::MustSelect;
 use known_targets::TargetSet;
 use serde::Serialize;
@@ -12,7 +12,7 @@ use std::alloc::{AllocError, Global};
 #[derive(Drop, Serialize)]
 struct Targets {
     /// Their names, or `all`.
-    at: TargetNames<'static>,
+    at: TargetList<'static>,
     /// The number of targets.
     targets: usize,
 }
@@ -53,9 +53,9 @@ struct Comparison<'a> {
 /// Returns known targets, for JSON.
 fn targets_of(alloc: Global, targets: TargetSet) -> Result<Targets, AllocError> {
     let at = if targets.equals(TargetSet::all()) {
-        TargetNames::All(AllTargets::All)
+        TargetList::All(AllTargets::All)
     } else {
-        TargetNames::Names(names_of(alloc, targets)?)
+        TargetList::Names(names_of(alloc, targets)?)
     };
     Ok(Targets {
         at,

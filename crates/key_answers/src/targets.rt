@@ -7,7 +7,7 @@ use std::alloc::{AllocError, Global};
 /// Targets by their names, or all selected ones.
 #[derive(Drop, Serialize)]
 #[serde(untagged)]
-pub enum TargetNames<'a> {
+pub enum TargetList<'a> {
     All(AllTargets),
     Names(Vec<&'a str>),
 }

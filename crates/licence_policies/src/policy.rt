@@ -8,7 +8,7 @@ use diagnostics::{
     Diagnostic, EmittedDiagnostic, LintLevel, diagnostic_of_failure, diagnostic_of_syntax,
     push_rendered,
 };
-use input_limits::without_mark;
+use input_limits::strip_byte_order_mark;
 use licence_audits::{Exception, PackageSpec};
 use manifests::key_locations::Location;
 use manifests::reading::{ManifestText, ReadError};
@@ -139,7 +139,7 @@ impl Policy {
     ///
     /// Fails only if an allocation fails.
     pub fn read(alloc: Global, path: &str, text: &str) -> Result<Policy, AllocError> {
-        let text = without_mark(text);
+        let text = strip_byte_order_mark(text);
         let source = PolicySource {
             path: String::from_str(alloc, path)?,
             text: String::from_str(alloc, text)?,

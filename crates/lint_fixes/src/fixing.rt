@@ -12,7 +12,7 @@ use crate::replacing::{CHANGED, FileChange, text_read, write_change};
 use crate::sameness::{Renames, has_key, is_same_manifest};
 use cargo_platform::shown_text;
 use diagnostics::{Diagnostic, Replacement, removals_of, replacement_of};
-use input_limits::without_mark;
+use input_limits::strip_byte_order_mark;
 use key_answers::answer::{Answer, Status};
 use std::alloc::{AllocError, Global};
 use std::collections::{BTreeMap, BTreeSet};
@@ -340,7 +340,7 @@ fn fixed_text(
     }
     let count = removed.len();
     removed.sort_by_key(|span| span.start)?;
-    let unmarked = without_mark(text);
+    let unmarked = strip_byte_order_mark(text);
     let mark = text.len().saturating_sub(unmarked.len());
     let edits = edits_of(alloc, unmarked, &fixes, &removed, mark)?;
     let fixed = apply(alloc, text, &edits)?.text;
@@ -461,7 +461,7 @@ pub fn fix_file<R: Files + AllocGlobal>(
     }
     let is_quiet = fixes.fixing.is_quiet;
     let mut answer = match text_read(rt, path, documents.limit)? {
-        Ok(text) if without_mark(text.as_str()) == fixes.text.as_str() => {
+        Ok(text) if strip_byte_order_mark(text.as_str()) == fixes.text.as_str() => {
             fix_text(rt, documents, path, text.as_str(), fixes)?
         }
         Ok(_) => not_fixed(alloc, path, CHANGED)?,

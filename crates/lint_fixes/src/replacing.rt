@@ -1,6 +1,6 @@
 //! Files that are replaced as a whole, or stay as they are.
 
-use input_limits::{file_within, reason_of};
+use input_limits::{read_file, reason_of};
 use std::alloc::{AllocError, Global};
 use std::fs::{self, File, Metadata, OpenFile};
 use std::io::{self, ErrorKind, Write};
@@ -87,7 +87,7 @@ fn replace<R: Files + AllocGlobal>(rt: &R, path: &str, text: &str) -> io::Result
 /// Writes the change of a file, unless the file has changed since it was read. Returns whether it was written.
 fn write<R: Files + AllocGlobal>(rt: &R, path: &str, change: &FileChange<'_>) -> io::Result<bool> {
     let path = fs::canonicalize(rt, path)?.into_string();
-    let text = file_within(rt, path.as_str(), change.limit)?;
+    let text = read_file(rt, path.as_str(), change.limit)?;
     if text.as_str() != change.before {
         return Ok(false);
     }
@@ -109,7 +109,7 @@ pub fn text_read<R: Files + AllocGlobal>(
     path: &str,
     limit: u64,
 ) -> Result<Result<String, String>, AllocError> {
-    match file_within(rt, path, limit) {
+    match read_file(rt, path, limit) {
         Ok(text) => Ok(Ok(text)),
         Err(error) => Ok(Err(reason_for(rt.alloc(), &error, limit)?)),
     }

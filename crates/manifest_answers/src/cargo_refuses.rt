@@ -2,7 +2,7 @@
 
 use crate::dependency_rules::{CheckedDependency, WorkspaceRoot, rejected_dependency};
 use cargo_platform::shown_start;
-use input_limits::without_mark;
+use input_limits::strip_byte_order_mark;
 use manifest_lints_findings::{Level, shown_table, table_diagnostics};
 use manifests::dotted_keys::find_dotted_key;
 use manifests::key_locations::Location;
@@ -314,7 +314,7 @@ pub fn rejected_by_cargo(
                 is_lint,
             },
         ) => {
-            let text = without_mark(document.text.as_str());
+            let text = strip_byte_order_mark(document.text.as_str());
             let at = find_dotted_key(alloc, text, &path)?;
             Ok(Some(Rejected {
                 at,

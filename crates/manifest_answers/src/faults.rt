@@ -1,7 +1,7 @@
 //! The errors of `select`: as lines for people, or as one JSON object on each line.
 
 use cargo_platform::ParseError;
-use input_limits::Unusable;
+use input_limits::InputError;
 use key_answers::answer::{Answer, Status};
 use key_answers::json_lines;
 use serde::Serialize;
@@ -111,7 +111,7 @@ impl<'a> ErrorReporter<'a> {
     }
 
     /// Returns the answer that reports an input that can't be used.
-    fn report_unusable(&self, alloc: Global, unusable: &Unusable) -> Result<Answer, AllocError> {
+    fn report_unusable(&self, alloc: Global, unusable: &InputError) -> Result<Answer, AllocError> {
         let line = unusable.line(alloc)?;
         let file = unusable.file.as_ref().map(|file: &String| file.as_str());
         let fault = Fault::of(file, unusable.reason.as_str());
@@ -119,7 +119,7 @@ impl<'a> ErrorReporter<'a> {
     }
 
     /// Returns the answer that reports inputs that can't be used, in their order.
-    pub fn report_each(&self, alloc: Global, unusable: &[Unusable]) -> Result<Answer, AllocError> {
+    pub fn report_each(&self, alloc: Global, unusable: &[InputError]) -> Result<Answer, AllocError> {
         let mut whole = Answer::of(alloc, String::new(alloc), Status::Fine);
         for it in unusable {
             whole.append(self.report_unusable(alloc, it)?)?;

@@ -3,7 +3,7 @@
 use crate::questions::{copied, facts_of_lines};
 use cargo_platform::{Cfg, CfgExpr, Platform};
 use exact_answers::{CanSelect, FactConstraints, MustSelect, always_platform, can_hold_platform};
-use input_limits::without_mark;
+use input_limits::strip_byte_order_mark;
 use key_answers::answer::Refusal;
 use key_answers::printing::{refused_fact, shown_name};
 use known_targets::{COUNT, KnownTarget, RUSTC_VERSION, TargetSet, having};
@@ -56,7 +56,7 @@ pub fn non_blank_line(line: &str) -> Option<&str> {
 /// white space on blank lines. Each line keeps its number.
 fn lines_of(alloc: Global, text: &str) -> Result<String, AllocError> {
     let mut lines = String::new(alloc);
-    for line in without_mark(text).split('\n') {
+    for line in strip_byte_order_mark(text).split('\n') {
         lines.push_str(non_blank_line(line).unwrap_or(""))?;
         lines.push_str("\n")?;
     }

@@ -7,7 +7,7 @@ ghost use Rattle.manifest_answers.specs.Deep.{HasNoDeepKey};
 use crate::cargo_refuses::Rejected;
 use crate::deep::first_deep;
 use crate::normalizing::{NormalizedManifest, read_normalized};
-use input_limits::Unusable;
+use input_limits::InputError;
 use key_answers::answer::{Answer, Status};
 use manifests::reading::Manifest;
 use std::alloc::{AllocError, Global};
@@ -78,7 +78,7 @@ fn add_answer_on_read<Q: Question>(
 fn answer_on_unusable<Q: Question>(
     alloc: Global,
     path: &str,
-    unusable: &Unusable,
+    unusable: &InputError,
     question: &mut Q,
 ) -> Result<Answer, AllocError> {
     let line = unusable.line(alloc)?;
@@ -99,7 +99,7 @@ fn add_answer_on<R: Files + Input + Env + AllocGlobal, Q: Question>(
     match read_normalized(rt, documents, path, question.asks_for_lines()) {
         Ok(taken) => add_answer_on_read(alloc, &taken, question, whole),
         Err(error) => {
-            let unusable = error.unusable(alloc)?;
+            let unusable = error.into_input_error(alloc)?;
             whole.append(answer_on_unusable(alloc, path, &unusable, question)?)
         }
     }

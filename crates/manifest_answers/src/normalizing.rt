@@ -4,7 +4,7 @@ use crate::cargo_refuses::{Rejected, rejected_by_cargo};
 use crate::deep::has_deep;
 use crate::dependency_rules::WorkspaceRoot;
 use cargo_platform::shown_text;
-use input_limits::{INPUT, without_mark};
+use input_limits::{INPUT, strip_byte_order_mark};
 use manifests::document;
 use manifests::reading::{Manifest, ManifestText, ReadError};
 use std::alloc::{AllocError, Global};
@@ -22,7 +22,7 @@ fn manifest_of(
     let Document { text, table } = read;
     let path = shown_text(alloc, path)?;
     if with_lines || has_deep(alloc, &table)? {
-        let text = without_mark(text.as_str());
+        let text = strip_byte_order_mark(text.as_str());
         let document = document::Document::of(alloc, table, text)?;
         return Ok(Manifest { path, document });
     }

@@ -8,7 +8,7 @@ use crate::given_targets::{FactsFrom, GivenTargets, non_blank_line};
 use cargo_platform::{
     Cfg, FactIndex, FactsError, Platform, ReadError, read_facts, shown_start, values_of,
 };
-use input_limits::without_mark;
+use input_limits::strip_byte_order_mark;
 use key_answers::answer::{Answer, Refusal, Status};
 use key_answers::conditions::read_key;
 use key_answers::json_lines;
@@ -294,7 +294,7 @@ pub fn targets_in(
 /// lines, and blank lines.
 fn fact_lines_of(alloc: Global, text: &str) -> Result<String, AllocError> {
     let mut lines = String::new(alloc);
-    for line in without_mark(text).split('\n') {
+    for line in strip_byte_order_mark(text).split('\n') {
         if let Some(fact) = non_blank_line(line) {
             lines.push_str(fact)?;
             lines.push_str("\n")?;
@@ -307,7 +307,7 @@ fn fact_lines_of(alloc: Global, text: &str) -> Result<String, AllocError> {
 fn line_of_fact(text: &str, facts: usize) -> usize {
     let mut left = facts;
     let mut number: usize = 0;
-    for line in without_mark(text).split('\n') {
+    for line in strip_byte_order_mark(text).split('\n') {
         if left == 0 {
             return number;
         }

@@ -12,7 +12,7 @@ use crate::target_names::{ALL_TARGETS, TargetsWithFlags, named_targets, targets_
 use crate::target_specs::with_custom_targets;
 use cargo_platform::shown_text;
 use clap::ArgMatches;
-use input_limits::{INPUT, Unusable};
+use input_limits::{INPUT, InputError};
 use key_answers::answer::{Answer, Refusal, Status, answered};
 use key_answers::comparing::compare;
 use lint_fixes::FixOptions;
@@ -175,16 +175,16 @@ fn unusable_targets(
     alloc: Global,
     matches: &ArgMatches<'_>,
     message: &str,
-) -> Result<Unusable, AllocError> {
+) -> Result<InputError, AllocError> {
     if message.starts_with("error: ") {
-        return Ok(Unusable {
+        return Ok(InputError {
             reason: String::from_str(alloc, reason_in(message, ""))?,
             file: None,
         });
     }
     let file = shown_text(alloc, word(matches, "facts-of"))?;
     let reason = reason_in(message, file.as_str());
-    Ok(Unusable {
+    Ok(InputError {
         reason: format!(in alloc; "cannot read the targets of `--facts-of`: {reason}")?,
         file: Some(file),
     })

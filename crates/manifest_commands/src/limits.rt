@@ -2,7 +2,7 @@
 
 use cargo_platform::shown_text;
 use clap::ArgMatches;
-use input_limits::{LIMIT, Unusable, file_within, given_within};
+use input_limits::{LIMIT, InputError, read_file, read_input};
 use key_answers::answer::Refusal;
 use std::alloc::{AllocError, Global};
 use std::io::{self, ErrorKind};
@@ -34,7 +34,7 @@ fn text_read(
             if error.kind() == ErrorKind::OutOfMemory {
                 return Err(Refusal::Memory(AllocError));
             }
-            let unusable = Unusable::refused(alloc, shown_text(alloc, file)?, &error, limit)?;
+            let unusable = InputError::refused(alloc, shown_text(alloc, file)?, &error, limit)?;
             Err(Refusal::Unusable(unusable.line(alloc)?))
         }
     }
@@ -46,10 +46,10 @@ pub fn text_of<R: Files + Input + AllocGlobal>(
     file: &str,
     limit: u64,
 ) -> Result<String, Refusal> {
-    text_read(rt.alloc(), file, given_within(rt, file, limit), limit)
+    text_read(rt.alloc(), file, read_input(rt, file, limit), limit)
 }
 
 /// Reads a file. Fails if it has more bytes than the limit.
 pub fn text_at<R: Files + AllocGlobal>(rt: &R, file: &str, limit: u64) -> Result<String, Refusal> {
-    text_read(rt.alloc(), file, file_within(rt, file, limit), limit)
+    text_read(rt.alloc(), file, read_file(rt, file, limit), limit)
 }

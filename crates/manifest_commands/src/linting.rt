@@ -14,7 +14,7 @@ use cargo_platform::{shown_start, shown_text};
 use diagnostics::{
     Diagnostic, EmittedDiagnostic, LintLevel, Occurrence, Rule, level_by_each, status_of,
 };
-use input_limits::{Unusable, without_mark};
+use input_limits::{InputError, strip_byte_order_mark};
 use key_answers::answer::{Answer, Status};
 use lint_fixes::{FixOptions, Fixes, fix_file};
 use lint_reports::{
@@ -260,7 +260,7 @@ fn places_at<R: Files + AllocGlobal>(
 ) -> Result<Locations, AllocError> {
     let alloc = rt.alloc();
     match documents.get(rt, file)? {
-        Some(document) => Locations::of(alloc, without_mark(document.text.as_str())),
+        Some(document) => Locations::of(alloc, strip_byte_order_mark(document.text.as_str())),
         None => Ok(Locations::none(alloc)),
     }
 }
@@ -714,7 +714,7 @@ fn manifest_of(alloc: Global, path: &str) -> Result<String, AllocError> {
 pub fn lint_each<R: Files + Input + Env + AllocGlobal>(
     rt: &R,
     paths: &[&str],
-    unusable: &[Unusable],
+    unusable: &[InputError],
     options: &LintOptions,
     documents: Documents,
 ) -> Result<Answer, AllocError> {

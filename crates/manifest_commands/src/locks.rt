@@ -7,7 +7,7 @@ use clap::ArgMatches;
 use cyclonedx::{LockError, LockFault, LockFile, read_lock};
 use diagnostics::{Diagnostic, EmittedDiagnostic, LintLevel, diagnostic_of_failure};
 use graph_answers::cyclonedx_report::Bill;
-use input_limits::without_mark;
+use input_limits::strip_byte_order_mark;
 use key_answers::answer::Refusal;
 use lint_reports::{Format, Printer, Style};
 use manifests::key_locations::Location;
@@ -76,7 +76,7 @@ pub fn lock_of<R: Files + AllocGlobal>(
         return Ok(None);
     };
     let read = text_at(rt, file, limit_of(matches))?;
-    let text = without_mark(read.as_str());
+    let text = strip_byte_order_mark(read.as_str());
     let name = shown_text(alloc, file)?;
     match read_lock(alloc, text) {
         Ok(lock) => Ok(Some(NamedLock { name, lock })),

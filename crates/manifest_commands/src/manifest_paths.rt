@@ -2,7 +2,7 @@
 
 use cargo_platform::shown_text;
 use clap::ArgMatches;
-use input_limits::{INPUT, Unusable, given_within};
+use input_limits::{INPUT, InputError, read_input};
 use manifests::reading::ReadError;
 use std::alloc::{AllocError, Global};
 use std::rt::{Env, Files};
@@ -12,14 +12,14 @@ use workspaces::{Documents, Found, ManifestSelection, find, put_text};
 #[derive(Drop)]
 pub struct SelectedManifests {
     pub paths: Vec<String>,
-    pub unusable: Vec<Unusable>,
+    pub unusable: Vec<InputError>,
     /// A warning a line.
     pub warnings: String,
 }
 
 impl SelectedManifests {
     /// Returns no manifest, but an error.
-    fn unusable(alloc: Global, unusable: Unusable) -> Result<SelectedManifests, AllocError> {
+    fn unusable(alloc: Global, unusable: InputError) -> Result<SelectedManifests, AllocError> {
         Ok(SelectedManifests {
             paths: Vec::new(alloc),
             unusable: vec![in alloc; unusable]?,
@@ -50,14 +50,14 @@ fn manifest_given<R: Files + Input + AllocGlobal>(
     path: &str,
 ) -> Result<String, ReadError> {
     let alloc = rt.alloc();
-    match given_within(rt, INPUT, documents.limit) {
+    match read_input(rt, INPUT, documents.limit) {
         Ok(text) => Ok(put_text(rt, documents, path, text)?),
         Err(error) => {
             let path = shown_text(alloc, path)?;
-            let refused = Unusable::refused(alloc, path, &error, documents.limit)?;
+            let refused = InputError::refused(alloc, path, &error, documents.limit)?;
             let reason = refused.reason.as_str();
             let reason = format!(in alloc; "cannot read standard input: {reason}")?;
-            Err(ReadError::Unusable(Unusable {
+            Err(ReadError::Input(InputError {
                 file: refused.file,
                 reason,
             }))
@@ -94,7 +94,7 @@ pub fn find_manifests<R: Files + Input + Env + AllocGlobal + Clone + Drop>(
                 leave_out_input(&mut selection.manifests);
                 selection.paths.push(file)?;
             }
-            Err(error) => return SelectedManifests::unusable(alloc, error.unusable(alloc)?),
+            Err(error) => return SelectedManifests::unusable(alloc, error.into_input_error(alloc)?),
         }
     }
     let Found {

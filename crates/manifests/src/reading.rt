@@ -3,7 +3,7 @@
 use crate::document::Document;
 use crate::key_locations::Location;
 use cargo_platform::shown_text;
-use input_limits::{INPUT, Unusable, given_within, without_mark};
+use input_limits::{INPUT, InputError, read_input, strip_byte_order_mark};
 use std::alloc::{AllocError, Global};
 use std::fs;
 use std::io::ErrorKind;
@@ -34,7 +34,7 @@ pub struct SyntaxError {
 
 impl SyntaxError {
     /// Returns the manifest and the error on one line. Fails if an allocation fails.
-    fn unusable(self, alloc: Global) -> Result<Unusable, AllocError> {
+    fn into_input_error(self, alloc: Global) -> Result<InputError, AllocError> {
         let SyntaxError {
             path,
             text: _,
@@ -49,7 +49,7 @@ impl SyntaxError {
         let reason = format!(in alloc;
             "TOML parse error at line {line}, column {column}: {message}"
         )?;
-        Ok(Unusable {
+        Ok(InputError {
             file: Some(path),
             reason,
         })
@@ -60,7 +60,7 @@ impl SyntaxError {
 #[derive(Drop)]
 pub enum ReadError {
     /// The file cannot be read.
-    Unusable(Unusable),
+    Input(InputError),
     /// The text of the file is not TOML.
     Syntax(SyntaxError),
     Memory(AllocError),
@@ -68,10 +68,10 @@ pub enum ReadError {
 
 impl ReadError {
     /// Returns the manifest and why it cannot be read, on one line. Fails if an allocation fails or failed.
-    pub fn unusable(self, alloc: Global) -> Result<Unusable, AllocError> {
+    pub fn into_input_error(self, alloc: Global) -> Result<InputError, AllocError> {
         match self {
-            ReadError::Unusable(unusable) => Ok(unusable),
-            ReadError::Syntax(error) => error.unusable(alloc),
+            ReadError::Input(unusable) => Ok(unusable),
+            ReadError::Syntax(error) => error.into_input_error(alloc),
             ReadError::Memory(refused) => Err(refused),
         }
     }
@@ -162,14 +162,14 @@ impl ManifestText {
         let alloc = rt.alloc();
         let file = file_at(rt, path)?;
         let path = shown_text(alloc, file.as_str())?;
-        match given_within(rt, file.as_str(), limit) {
+        match read_input(rt, file.as_str(), limit) {
             Ok(text) => Ok(ManifestText { path, text }),
             Err(error) => {
                 if error.kind() == ErrorKind::OutOfMemory {
                     return Err(ReadError::Memory(AllocError));
                 }
-                let unusable = Unusable::refused(alloc, path, &error, limit)?;
-                Err(ReadError::Unusable(unusable))
+                let unusable = InputError::refused(alloc, path, &error, limit)?;
+                Err(ReadError::Input(unusable))
             }
         }
     }
@@ -181,7 +181,7 @@ impl ManifestText {
 
     /// Returns the text as Cargo reads it, without a byte order mark.
     fn text(&self) -> &str {
-        without_mark(self.text.as_str())
+        strip_byte_order_mark(self.text.as_str())
     }
 
     /// Parses the text as a TOML table. Fails if it is not TOML, or an allocation fails.

@@ -1,7 +1,7 @@
 //! Lines of JSON with characters that could end or disguise them.
 
 use key_answers::json_lines::{push_line, push_spaced_line};
-use key_answers::targets::{AllTargets, TargetNames};
+use key_answers::targets::{AllTargets, TargetList};
 use serde::Serialize;
 use std::alloc::{AllocError, Global};
 use std::test::Fail;
@@ -9,7 +9,7 @@ use std::test::Fail;
 #[derive(Drop, Serialize)]
 struct Line<'a> {
     text: &'a str,
-    at: TargetNames<'a>,
+    at: TargetList<'a>,
     span: Option<(usize, usize)>,
 }
 
@@ -17,7 +17,7 @@ struct Line<'a> {
 fn lines_of(alloc: Global, text: &str) -> Result<String, AllocError> {
     let line = Line {
         text,
-        at: TargetNames::All(AllTargets::All),
+        at: TargetList::All(AllTargets::All),
         span: None,
     };
     let mut lines = String::new(alloc);
@@ -69,7 +69,7 @@ fn arrays_are_written(rt: HostRuntime) -> Result<(), Fail> {
     let alloc = rt.alloc();
     let line = Line {
         text: "a,",
-        at: TargetNames::Names(vec![in alloc; "b,", "c"]?),
+        at: TargetList::Names(vec![in alloc; "b,", "c"]?),
         span: Some((1, 20)),
     };
     let mut lines = String::new(alloc);

@@ -1,7 +1,7 @@
 //! Manifests that are read and parsed once, however often they are needed.
 
 use crate::manifests::{if_successful, table_in, table_of, text_in};
-use input_limits::{INPUT, file_within};
+use input_limits::{INPUT, read_file};
 use std::alloc::{AllocError, Global};
 use std::collections::BTreeMap;
 use std::fs;
@@ -123,7 +123,7 @@ impl ReadFile {
         file: &str,
         limit: u64,
     ) -> Result<ReadFile, AllocError> {
-        match if_successful(file_within(rt, file, limit))? {
+        match if_successful(read_file(rt, file, limit))? {
             Some(text) => {
                 let table = table_of(rt.alloc(), text.as_str())?;
                 ReadFile::of(rt.alloc(), text, table)

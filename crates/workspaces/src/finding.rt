@@ -7,7 +7,7 @@ use crate::manifests::{
     shorter, simplified_from, table_of,
 };
 use crate::members::members_of;
-use input_limits::{INPUT, Unusable};
+use input_limits::{INPUT, InputError};
 use std::alloc::{AllocError, Global};
 use std::collections::BTreeSet;
 use std::env;
@@ -36,7 +36,7 @@ pub struct ManifestSelection {
 pub struct Found {
     pub paths: Vec<String>,
     /// The errors for manifests that can't be found.
-    pub unusable: Vec<Unusable>,
+    pub unusable: Vec<InputError>,
     /// A warning a line, for each entry of `excluded` that matches no manifest.
     pub warnings: String,
 }
@@ -44,7 +44,7 @@ pub struct Found {
 impl Found {
     /// Adds an error.
     pub(crate) fn push(&mut self, reason: String) -> Result<(), AllocError> {
-        self.unusable.push(Unusable { file: None, reason })?;
+        self.unusable.push(InputError { file: None, reason })?;
         Ok(())
     }
 }
@@ -179,8 +179,8 @@ fn first_of<R: Files + Env + AllocGlobal>(
 /// Returns whether two errors have the same reason, and are about the same file.
 fn is_same<R: Files + AllocGlobal>(
     rt: &R,
-    first: &Unusable,
-    second: &Unusable,
+    first: &InputError,
+    second: &InputError,
 ) -> Result<bool, AllocError> {
     if first.reason.as_str() != second.reason.as_str() {
         return Ok(false);
@@ -199,7 +199,7 @@ fn is_same<R: Files + AllocGlobal>(
 /// Adds an error, unless it is present: a root that is named in several ways has the same errors each time.
 fn add_error<R: Files + AllocGlobal>(
     rt: &R,
-    error: Unusable,
+    error: InputError,
     found: &mut Found,
 ) -> Result<(), AllocError> {
     for other in &found.unusable {

@@ -6,7 +6,7 @@ ghost use Rattle.toml.specs.View.{table_view};
 ghost use Rattle.workspaces.specs.Documents.{SpellsTable};
 
 use crate::patterns::plain_components;
-use input_limits::without_mark;
+use input_limits::strip_byte_order_mark;
 use std::alloc::{AllocError, Global};
 use std::io::ErrorKind;
 use std::rt::Files;
@@ -161,7 +161,7 @@ pub fn is_file<R: Files + AllocGlobal>(rt: &R, path: &str) -> Result<bool, Alloc
 pub fn table_of(alloc: Global, text: &str) -> Result<Option<Table>, AllocError>
     ensures { IfOk result (λ found. SpellsTable text.now (option_map table_view found)) }
 {
-    match table_from_str(alloc, without_mark(text)) {
+    match table_from_str(alloc, strip_byte_order_mark(text)) {
         Ok(table) => Ok(Some(table)),
         Err(error) => {
             if error.is_memory() {

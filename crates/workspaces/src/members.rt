@@ -8,7 +8,7 @@ use crate::manifests::{folder_of, inside, is_file, manifest_inside, shorter, tab
 use crate::member_rules::Rules;
 use crate::patterns::{Fault, Pattern, PatternError, names_of};
 use cargo_platform::shown_text;
-use input_limits::Unusable;
+use input_limits::InputError;
 use std::alloc::{AllocError, Global};
 use std::collections::BTreeSet;
 use std::rt::Files;
@@ -16,12 +16,12 @@ use toml::Table;
 
 /// Adds an error on a file.
 fn push_unusable(
-    unusable: &mut Vec<Unusable>,
+    unusable: &mut Vec<InputError>,
     alloc: Global,
     file: &str,
     reason: &str,
 ) -> Result<(), AllocError> {
-    unusable.push(Unusable {
+    unusable.push(InputError {
         file: Some(shown_text(alloc, file)?),
         reason: shown_text(alloc, reason)?,
     })?;
@@ -72,7 +72,7 @@ fn globs_of(
     alloc: Global,
     file: &str,
     texts: &[String],
-    unusable: &mut Vec<Unusable>,
+    unusable: &mut Vec<InputError>,
 ) -> Result<Vec<Pattern>, AllocError> {
     let mut globs = Vec::new(alloc);
     for text in texts {
@@ -117,7 +117,7 @@ fn rules_of(
     file: &str,
     texts: &[String],
     excluded: &[String],
-    unusable: &mut Vec<Unusable>,
+    unusable: &mut Vec<InputError>,
 ) -> Result<Rules, AllocError> {
     Ok(Rules {
         members: globs_of(alloc, file, texts, unusable)?,
@@ -310,7 +310,7 @@ impl Members {
         &self,
         alloc: Global,
         file: &str,
-        unusable: &mut Vec<Unusable>,
+        unusable: &mut Vec<InputError>,
     ) -> Result<(), AllocError> {
         if self.missing.is_empty() {
             return Ok(());
@@ -363,7 +363,7 @@ fn members_by_globs<R: Files + AllocGlobal + Clone + Drop>(
     rt: &R,
     file: &str,
     root: &Document,
-    unusable: &mut Vec<Unusable>,
+    unusable: &mut Vec<InputError>,
 ) -> Result<Option<Members>, AllocError> {
     let alloc = rt.alloc();
     let Some(workspace) = root.workspace() else {
@@ -398,7 +398,7 @@ pub fn members_of<R: Files + AllocGlobal + Clone + Drop>(
     rt: &R,
     documents: &mut Documents,
     file: &str,
-    unusable: &mut Vec<Unusable>,
+    unusable: &mut Vec<InputError>,
 ) -> Result<BTreeSet<String>, AllocError> {
     let members = match documents.get(rt, file)? {
         Some(root) => members_by_globs(rt, file, root, unusable)?,

@@ -96,7 +96,7 @@ fn report_unusable(
     run: &mut LintRun<'_>,
 ) -> Result<(), AllocError> {
     match error {
-        ReadError::Unusable(unusable) => {
+        ReadError::Input(unusable) => {
             let reason = unusable.reason.as_str();
             let message = format!(in alloc; "cannot read the file: {reason}")?;
             report_without_place(alloc, &unusable.file, message, run)

@@ -1,5 +1,5 @@
 use Rattle.input_limits.proofs.Taking.{text_whole}
-use Rattle.input_limits.proofs.texts.text_within.Goals as goal
+use Rattle.input_limits.proofs.texts.read_text.Goals as goal
 
 pub returns-clause-whole : goal.returns-clause-whole
 returns-clause-whole g c =
