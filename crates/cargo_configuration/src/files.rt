@@ -5,8 +5,8 @@ use crate::environment::variable;
 use std::alloc::{AllocError, Global};
 use std::rt::{Env, Files};
 use workspaces::{
-    MANIFEST, current_folder_depth, folder_of, from_above, inside, is_file, manifest_inside,
-    shorter,
+    MANIFEST, current_folder_depth, folder_of, from_above, is_file, join_manifest_path, join_path,
+    simplified_path,
 };
 
 /// The folder that holds a configuration, beside the manifest of a workspace.
@@ -34,7 +34,7 @@ fn configuration_in<R: Files + AllocGlobal>(
     folder: &str,
 ) -> Result<Option<String>, AllocError> {
     for name in NAMES {
-        let file = inside(rt.alloc(), folder, name)?;
+        let file = join_path(rt.alloc(), folder, name)?;
         if is_file(rt, file.as_str())? {
             return Ok(Some(file));
         }
@@ -53,7 +53,7 @@ pub fn configuration_beside<R: Files + AllocGlobal>(
     if file_name(manifest) != MANIFEST {
         return Ok(None);
     }
-    let folder = inside(rt.alloc(), folder_of(manifest), FOLDER)?;
+    let folder = join_path(rt.alloc(), folder_of(manifest), FOLDER)?;
     configuration_in(rt, folder.as_str())
 }
 
@@ -65,7 +65,7 @@ fn cargo_home<R: Env + AllocGlobal>(rt: &R) -> Result<Option<String>, AllocError
         }
     }
     match variable(rt, "HOME")? {
-        Some(folder) => Ok(Some(inside(rt.alloc(), folder.as_str(), FOLDER)?)),
+        Some(folder) => Ok(Some(join_path(rt.alloc(), folder.as_str(), FOLDER)?)),
         None => Ok(None),
     }
 }
@@ -114,6 +114,6 @@ pub fn current_configurations<R: Files + Env + AllocGlobal>(
 ///
 /// Fails only if an allocation fails.
 pub fn manifest_beside(alloc: Global, configuration: &str) -> Result<String, AllocError> {
-    let file = manifest_inside(alloc, folder_of(configuration), "..")?;
-    shorter(alloc, file.as_str())
+    let file = join_manifest_path(alloc, folder_of(configuration), "..")?;
+    simplified_path(alloc, file.as_str())
 }

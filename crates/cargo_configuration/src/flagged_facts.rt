@@ -3,7 +3,7 @@
 use crate::flags::{Flags, SharedFlags};
 use crate::sources::{Source, used_source};
 use cargo_platform::shown_start;
-use key_answers::answer::Refusal;
+use key_answers::answer::QueryError;
 use manifest_answers::given_targets::FactsFrom;
 use manifest_answers::questions::applies;
 use std::alloc::{AllocError, Global};
@@ -102,8 +102,8 @@ fn are_of(
     let added = known.behind(alloc, target.added)?;
     match applies(alloc, key.as_str(), target.name, target.facts_from, &added) {
         Ok(applies) => Ok(applies),
-        Err(Refusal::Unusable(_)) => Ok(false),
-        Err(Refusal::Memory(refused)) => Err(refused),
+        Err(QueryError::Unusable(_)) => Ok(false),
+        Err(QueryError::Memory(refused)) => Err(refused),
     }
 }
 

@@ -4,7 +4,7 @@
 use crate::environment::variable;
 use crate::includes::{MOST_FILES, UnreadFiles};
 use crate::sources::{Source, are_joined};
-use key_answers::answer::Refusal;
+use key_answers::answer::QueryError;
 use std::alloc::{AllocError, Global};
 use std::rt::{Env, Files};
 use toml::{Table, Value};
@@ -235,7 +235,7 @@ fn add_configuration(
 fn file_flags<R: Files + Input + Env + AllocGlobal>(
     rt: &R,
     limit: u64,
-) -> Result<Vec<Flags>, Refusal> {
+) -> Result<Vec<Flags>, QueryError> {
     let alloc = rt.alloc();
     let mut found = Vec::new(alloc);
     let mut files = UnreadFiles::current(rt)?;
@@ -265,7 +265,7 @@ impl SharedFlags {
     pub fn read<R: Files + Input + Env + AllocGlobal>(
         rt: &R,
         limit: u64,
-    ) -> Result<SharedFlags, Refusal> {
+    ) -> Result<SharedFlags, QueryError> {
         let found = environment_flags(rt)?;
         if !found.is_empty() {
             return Ok(SharedFlags {

@@ -3,12 +3,12 @@
 
 use crate::files::current_configurations;
 use cargo_platform::shown_text;
-use key_answers::answer::Refusal;
+use key_answers::answer::QueryError;
 use manifests::reading::{Manifest, read_manifest};
 use std::alloc::{AllocError, Global};
 use std::rt::{Env, Files};
 use toml::{Table, Value};
-use workspaces::{folder_of, inside, is_file, text_in};
+use workspaces::{folder_of, is_file, join_path, text_in};
 
 /// The maximum number of configuration files that are read.
 pub const MOST_FILES: usize = 1024;
@@ -47,7 +47,7 @@ impl UnreadFiles {
         &mut self,
         rt: &R,
         limit: u64,
-    ) -> Result<Option<Manifest>, Refusal> {
+    ) -> Result<Option<Manifest>, QueryError> {
         let Some(path) = self.paths.pop() else {
             return Ok(None);
         };
@@ -57,7 +57,7 @@ impl UnreadFiles {
     }
 
     /// Returns an error if a file has not been read yet: so many files include each other.
-    pub fn reject_rest(&mut self, alloc: Global) -> Result<(), Refusal> {
+    pub fn reject_rest(&mut self, alloc: Global) -> Result<(), QueryError> {
         match self.paths.pop() {
             Some(path) => Err(rejected_include(alloc, path.as_str(), "files include each other")?),
             None => Ok(()),
@@ -70,7 +70,7 @@ impl UnreadFiles {
         rt: &R,
         path: &str,
         configuration: &Table,
-    ) -> Result<(), Refusal> {
+    ) -> Result<(), QueryError> {
         let alloc = rt.alloc();
         let Some(value) = configuration.get("include") else {
             return Ok(());
@@ -99,7 +99,7 @@ impl UnreadFiles {
         } else {
             folder_of(path)
         };
-        let file = inside(rt.alloc(), folder, inclusion.path)?;
+        let file = join_path(rt.alloc(), folder, inclusion.path)?;
         if !inclusion.is_optional || is_file(rt, file.as_str())? {
             self.paths.push(file)?;
         }
@@ -112,20 +112,20 @@ fn read_configuration<R: Files + Input + AllocGlobal>(
     rt: &R,
     path: &str,
     limit: u64,
-) -> Result<Manifest, Refusal> {
+) -> Result<Manifest, QueryError> {
     match read_manifest(rt, path, limit) {
         Ok(configuration) => Ok(configuration),
         Err(error) => {
             let unusable = error.into_input_error(rt.alloc())?;
-            Err(Refusal::Unusable(unusable.line(rt.alloc())?))
+            Err(QueryError::Unusable(unusable.line(rt.alloc())?))
         }
     }
 }
 
 /// Returns the error for a configuration whose `include` Cargo rejects.
-fn rejected_include(alloc: Global, path: &str, reason: &str) -> Result<Refusal, AllocError> {
+fn rejected_include(alloc: Global, path: &str, reason: &str) -> Result<QueryError, AllocError> {
     let path = shown_text(alloc, path)?;
-    Ok(Refusal::Unusable(format!(in alloc; "{path}: error: include: {reason}\n")?))
+    Ok(QueryError::Unusable(format!(in alloc; "{path}: error: include: {reason}\n")?))
 }
 
 /// Returns the file that a member of `include` names, if it names one.

@@ -11,9 +11,9 @@ use Rattle.serde_json.specs.View.{view, items_of}
 use Rattle.serde_json.specs.declared.value.Value.{Value}
 use Rattle.cargo_metadata.specs.Rows.{AreRows, of_none, of_more, IsFirstAt}
 use Rattle.cargo_metadata.specs.Fields.{elements, text_at, list_at, Field, Fits, IsWrong, IsAt, IsFirstWrong}
-use Rattle.cargo_metadata.specs.declared.refusals.Wanted.{Wanted}
-use Rattle.cargo_metadata.specs.declared.refusals.Wanted.TheVariants as wanted
-use Rattle.cargo_metadata.specs.declared.refusals.Wrong.{Wrong}
+use Rattle.cargo_metadata.specs.declared.refusals.ExpectedValue.{ExpectedValue}
+use Rattle.cargo_metadata.specs.declared.refusals.ExpectedValue.TheVariants as expected
+use Rattle.cargo_metadata.specs.declared.refusals.FieldError.{FieldError}
 
 pub elements_of : (ds : List Data) → elements (items_of ds) ≡ ds
 elements_of [] = refl
@@ -67,30 +67,30 @@ first_at {X} IsRow Is field d items i v xs stand below is rows such = record {
   such = element_is Is items i v below is such;
 }
 
-pub text_fits : (field : List ℕ) (d : Data) (s : List ℕ) → text_at field d ≡ Some s → Fits d (field, wanted.Text)
+pub text_fits : (field : List ℕ) (d : Data) (s : List ℕ) → text_at field d ≡ Some s → Fits d (field, expected.Text)
 text_fits field d s is = ap (λ (o : Option (List ℕ)). is_some o) is
 
 mapped_some : {X Y : Type 0} (f : X → Y) (o : Option X) (y : Y) → option_map f o ≡ Some y → is_some o ≡ true
 mapped_some f None y is = absurd cc
 mapped_some f (Some x) y is = refl
 
-pub list_fits : (field : List ℕ) (d : Data) (ds : List Data) → list_at field d ≡ Some ds → Fits d (field, wanted.List)
+pub list_fits : (field : List ℕ) (d : Data) (ds : List Data) → list_at field d ≡ Some ds → Fits d (field, expected.List)
 list_fits field d ds is = mapped_some elements (option_and_then as_array (get field d)) ds is
 
 -- the error is in the field after these, which are as expected
-first_wrong : (before : List Field) (field : List ℕ) (what : Wanted) (after : List Field) (d : Data) (wrong : Wrong)
+first_wrong : (before : List Field) (field : List ℕ) (what : ExpectedValue) (after : List Field) (d : Data) (wrong : FieldError)
     → All (Fits d) before → IsWrong d wrong → IsAt field what wrong
     → IsFirstWrong (before ++ (field, what) ∷ after) d wrong
 first_wrong before field what after d wrong fit misfits at = record {
   before = before;
   after = after;
   order = ap (λ (f : Field). before ++ f ∷ after)
-      (ap (λ (n : List ℕ). (n, what)) (sym at.0) ∙ ap (λ (w : Wanted). (wrong.field.now, w)) (sym at.1));
+      (ap (λ (n : List ℕ). (n, what)) (sym at.0) ∙ ap (λ (w : ExpectedValue). (wrong.field.now, w)) (sym at.1));
   fit = fit;
   misfits = misfits;
 }
 
-pub wrong_first : (field : List ℕ) (what : Wanted) (after : List Field) (d : Data) (wrong : Wrong) → IsWrong d wrong
+pub wrong_first : (field : List ℕ) (what : ExpectedValue) (after : List Field) (d : Data) (wrong : FieldError) → IsWrong d wrong
     → IsAt field what wrong → IsFirstWrong ((field, what) ∷ after) d wrong
 wrong_first field what after d wrong misfits at =
     first_wrong [] field what after d wrong (All-nil (Fits d)) misfits at
@@ -101,12 +101,12 @@ one_fits d f fit = All-cons (Fits d) f [] fit (All-nil (Fits d))
 pub two_fit : (d : Data) (f g : Field) → Fits d f → Fits d g → All (Fits d) (f ∷ g ∷ [])
 two_fit d f g fit also = All-cons (Fits d) f (g ∷ []) fit (one_fits d g also)
 
-pub wrong_second : (f : Field) (field : List ℕ) (what : Wanted) (after : List Field) (d : Data) (wrong : Wrong)
+pub wrong_second : (f : Field) (field : List ℕ) (what : ExpectedValue) (after : List Field) (d : Data) (wrong : FieldError)
     → Fits d f → IsWrong d wrong → IsAt field what wrong → IsFirstWrong (f ∷ (field, what) ∷ after) d wrong
 wrong_second f field what after d wrong fit misfits at =
     first_wrong (f ∷ []) field what after d wrong (one_fits d f fit) misfits at
 
-pub wrong_third : (f g : Field) (field : List ℕ) (what : Wanted) (after : List Field) (d : Data) (wrong : Wrong)
+pub wrong_third : (f g : Field) (field : List ℕ) (what : ExpectedValue) (after : List Field) (d : Data) (wrong : FieldError)
     → Fits d f → Fits d g → IsWrong d wrong → IsAt field what wrong
     → IsFirstWrong (f ∷ g ∷ (field, what) ∷ after) d wrong
 wrong_third f g field what after d wrong fit also misfits at =

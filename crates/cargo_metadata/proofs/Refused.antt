@@ -9,11 +9,11 @@ use Rattle.cargo_metadata.specs.Rows.{AreRowsAt}
 use Rattle.cargo_metadata.specs.Packages.{IsPackage}
 use Rattle.cargo_metadata.specs.Documents.{IsMember, IsVersionOne, IsIn, IsFault, IsWhole, IsRefused}
 use Rattle.cargo_metadata.specs.declared.packages.Package.{Package}
-use Rattle.cargo_metadata.specs.declared.refusals.Wanted.TheVariants as wanted
+use Rattle.cargo_metadata.specs.declared.refusals.ExpectedValue.TheVariants as expected
 use Rattle.cargo_metadata.specs.declared.refusals.Refusal.{Refusal}
 use Rattle.cargo_metadata.proofs.Elements.{list_fits}
 
-pub version_whole : (d : Data) → IsVersionOne d → IsWhole d (codes "version", wanted.One)
+pub version_whole : (d : Data) → IsVersionOne d → IsWhole d (codes "version", expected.One)
 version_whole d one = record {
   itself = one;
   packages = λ e. absurd cc;
@@ -21,7 +21,7 @@ version_whole d one = record {
 }
 
 pub packages_whole : (d : Data) (ps : List Package) → AreRowsAt IsPackage (codes "packages") d ps
-    → IsWhole d (codes "packages", wanted.List)
+    → IsWhole d (codes "packages", expected.List)
 packages_whole d ps rows = record {
   itself = list_fits (codes "packages") d rows.elements rows.stand;
   packages = λ e. (ps, rows);
@@ -29,7 +29,7 @@ packages_whole d ps rows = record {
 }
 
 pub members_whole : (d : Data) (ms : List (Bor (List ℕ))) → AreRowsAt IsMember (codes "workspace_members") d ms
-    → IsWhole d (codes "workspace_members", wanted.List)
+    → IsWhole d (codes "workspace_members", expected.List)
 members_whole d ms rows = record {
   itself = list_fits (codes "workspace_members") d rows.elements rows.stand;
   packages = λ e. absurd cc;
@@ -50,37 +50,37 @@ first_part before field after d refusal order whole fault within = record {
   fault = fault;
 }
 
-pub in_version : (d : Data) (refusal : Refusal) → IsFault d refusal → IsIn (codes "version", wanted.One) refusal
+pub in_version : (d : Data) (refusal : Refusal) → IsFault d refusal → IsIn (codes "version", expected.One) refusal
     → IsRefused d refusal
 in_version d refusal fault within = first_part [] _ _ d refusal refl (All-nil (IsWhole d)) fault within
 
 module _ (d : Data) (refusal : Refusal) (one : IsVersionOne d) (fault : IsFault d refusal) where
-  whole_version : All (IsWhole d) ((codes "version", wanted.One) ∷ [])
+  whole_version : All (IsWhole d) ((codes "version", expected.One) ∷ [])
   whole_version =
-      All-cons (IsWhole d) (codes "version", wanted.One) [] (version_whole d one) (All-nil (IsWhole d))
+      All-cons (IsWhole d) (codes "version", expected.One) [] (version_whole d one) (All-nil (IsWhole d))
 
-  pub in_packages : IsIn (codes "packages", wanted.List) refusal → IsRefused d refusal
-  in_packages within = first_part ((codes "version", wanted.One) ∷ []) _ _ d refusal refl whole_version fault within
+  pub in_packages : IsIn (codes "packages", expected.List) refusal → IsRefused d refusal
+  in_packages within = first_part ((codes "version", expected.One) ∷ []) _ _ d refusal refl whole_version fault within
 
   module _ (ps : List Package) (packages : AreRowsAt IsPackage (codes "packages") d ps) where
-    whole_packages : All (IsWhole d) ((codes "packages", wanted.List) ∷ [])
+    whole_packages : All (IsWhole d) ((codes "packages", expected.List) ∷ [])
     whole_packages =
-        All-cons (IsWhole d) (codes "packages", wanted.List) [] (packages_whole d ps packages) (All-nil (IsWhole d))
+        All-cons (IsWhole d) (codes "packages", expected.List) [] (packages_whole d ps packages) (All-nil (IsWhole d))
 
-    pub in_members : IsIn (codes "workspace_members", wanted.List) refusal → IsRefused d refusal
+    pub in_members : IsIn (codes "workspace_members", expected.List) refusal → IsRefused d refusal
     in_members within =
-        let before : List Field = (codes "version", wanted.One) ∷ (codes "packages", wanted.List) ∷ [] in
+        let before : List Field = (codes "version", expected.One) ∷ (codes "packages", expected.List) ∷ [] in
         first_part before _ _ d refusal refl
-        (All-cons (IsWhole d) (codes "version", wanted.One) ((codes "packages", wanted.List) ∷ []) (version_whole d one)
+        (All-cons (IsWhole d) (codes "version", expected.One) ((codes "packages", expected.List) ∷ []) (version_whole d one)
         whole_packages) fault within
 
     pub in_resolve : (ms : List (Bor (List ℕ))) → AreRowsAt IsMember (codes "workspace_members") d ms
-        → IsIn (codes "resolve", wanted.Resolve) refusal → IsRefused d refusal
+        → IsIn (codes "resolve", expected.Resolve) refusal → IsRefused d refusal
     in_resolve ms members within =
-        let last : List Field = (codes "workspace_members", wanted.List) ∷ [] in
-        first_part ((codes "version", wanted.One) ∷ (codes "packages", wanted.List) ∷ last) _ _ d refusal refl
-        (All-cons (IsWhole d) (codes "version", wanted.One) ((codes "packages", wanted.List) ∷ last)
+        let last : List Field = (codes "workspace_members", expected.List) ∷ [] in
+        first_part ((codes "version", expected.One) ∷ (codes "packages", expected.List) ∷ last) _ _ d refusal refl
+        (All-cons (IsWhole d) (codes "version", expected.One) ((codes "packages", expected.List) ∷ last)
         (version_whole d one)
-        (All-cons (IsWhole d) (codes "packages", wanted.List) last (packages_whole d ps packages)
-        (All-cons (IsWhole d) (codes "workspace_members", wanted.List) [] (members_whole d ms members)
+        (All-cons (IsWhole d) (codes "packages", expected.List) last (packages_whole d ps packages)
+        (All-cons (IsWhole d) (codes "workspace_members", expected.List) [] (members_whole d ms members)
         (All-nil (IsWhole d))))) fault within

@@ -9,7 +9,7 @@ use Rattle.cargo_metadata.specs.Rows.{AreRowsAt, HasRowsAt, IsFirstAt}
 use Rattle.cargo_metadata.specs.Packages.{IsPackage}
 use Rattle.cargo_metadata.specs.Nodes.{IsNode, IsInNode}
 use Rattle.cargo_metadata.specs.declared.metadata.Metadata.{Metadata}
-use Rattle.cargo_metadata.specs.declared.refusals.Wanted.TheVariants as wanted
+use Rattle.cargo_metadata.specs.declared.refusals.ExpectedValue.TheVariants as expected
 use Rattle.cargo_metadata.specs.declared.refusals.DependencyError.{DependencyError}
 use Rattle.cargo_metadata.specs.declared.refusals.DependencyError.TheVariants as in_dependency
 use Rattle.cargo_metadata.specs.declared.refusals.NodeError.{NodeError}
@@ -23,7 +23,7 @@ abbrev pub IsMember : Data → Bor (List ℕ) → Type 0
 IsMember d id = as_str d ≡ Some id.now
 
 abbrev pub IsVersionOne : Data → Type 0
-IsVersionOne d = fits wanted.One (get (codes "version") d) ≡ true
+IsVersionOne d = fits expected.One (get (codes "version") d) ≡ true
 
 -- the value of `resolve` is this object
 pub record IsResolve (d : Data) (resolve : Data) : Type 0 where

@@ -7,9 +7,9 @@ use Rattle.serde_json.specs.Data.{no_members, member}
 use Rattle.serde_json.specs.Find.{get, as_str, as_bool, as_array, as_object, as_number, as_u64}
 use Rattle.cargo_metadata.specs.declared.nodes.Kind.{Kind}
 use Rattle.cargo_metadata.specs.declared.nodes.Kind.TheVariants.{Normal, Build, Dev}
-use Rattle.cargo_metadata.specs.declared.refusals.Wanted.{Wanted}
-use Rattle.cargo_metadata.specs.declared.refusals.Wanted.TheVariants as wanted
-use Rattle.cargo_metadata.specs.declared.refusals.Wrong.{Wrong}
+use Rattle.cargo_metadata.specs.declared.refusals.ExpectedValue.{ExpectedValue}
+use Rattle.cargo_metadata.specs.declared.refusals.ExpectedValue.TheVariants as expected
+use Rattle.cargo_metadata.specs.declared.refusals.FieldError.{FieldError}
 
 abbrev pub field_at : List ℕ → Data → Option Data
 field_at field d = get field d
@@ -73,57 +73,57 @@ is_one None = false
 is_one (Some n) = n == 1
 
 -- true if the value of a field is as expected
-abbrev pub fits : Wanted → Option Data → Bool
-fits wanted.Text found = is_some (option_and_then as_str found)
-fits wanted.List found = is_some (option_and_then as_array found)
-fits wanted.One found = is_one (option_and_then as_u64 (option_and_then as_number found))
-fits wanted.Resolve found = is_some (option_and_then as_object found)
-fits wanted.Kind found = is_some (kind_in found)
-fits wanted.Condition found = is_some (condition_in found)
-fits wanted.Flag found = is_some (option_and_then as_bool found)
-fits wanted.Features found = is_features (option_and_then as_object found)
+abbrev pub fits : ExpectedValue → Option Data → Bool
+fits expected.Text found = is_some (option_and_then as_str found)
+fits expected.List found = is_some (option_and_then as_array found)
+fits expected.One found = is_one (option_and_then as_u64 (option_and_then as_number found))
+fits expected.Resolve found = is_some (option_and_then as_object found)
+fits expected.Kind found = is_some (kind_in found)
+fits expected.Condition found = is_some (condition_in found)
+fits expected.Flag found = is_some (option_and_then as_bool found)
+fits expected.Features found = is_features (option_and_then as_object found)
 
-abbrev pub IsWrong : Data → Wrong → Type 0
-IsWrong d wrong = fits wrong.wanted (get wrong.field.now d) ≡ false
+abbrev pub IsWrong : Data → FieldError → Type 0
+IsWrong d wrong = fits wrong.expected (get wrong.field.now d) ≡ false
 
 -- the error is about this field, and expects this value
-abbrev pub IsAt : List ℕ → Wanted → Wrong → Type 0
-IsAt field what wrong = (wrong.field.now ≡ field) × (wrong.wanted ≡ what)
+abbrev pub IsAt : List ℕ → ExpectedValue → FieldError → Type 0
+IsAt field what wrong = (wrong.field.now ≡ field) × (wrong.expected ≡ what)
 
 -- ---- the fields, in the order in which they are read
 
 -- a field, and the value that is expected in it
 abbrev pub Field : Type 0
-Field = List ℕ × Wanted
+Field = List ℕ × ExpectedValue
 
 abbrev pub fields_of_document : List Field
 fields_of_document =
-    (codes "version", wanted.One) ∷ (codes "packages", wanted.List) ∷ (codes "workspace_members", wanted.List)
-    ∷ (codes "resolve", wanted.Resolve) ∷ []
+    (codes "version", expected.One) ∷ (codes "packages", expected.List) ∷ (codes "workspace_members", expected.List)
+    ∷ (codes "resolve", expected.Resolve) ∷ []
 
 abbrev pub fields_of_package : List Field
-fields_of_package = (codes "id", wanted.Text) ∷ (codes "name", wanted.Text) ∷ (codes "version", wanted.Text) ∷ []
+fields_of_package = (codes "id", expected.Text) ∷ (codes "name", expected.Text) ∷ (codes "version", expected.Text) ∷ []
 
 abbrev pub fields_of_resolve : List Field
-fields_of_resolve = (codes "nodes", wanted.List) ∷ []
+fields_of_resolve = (codes "nodes", expected.List) ∷ []
 
 abbrev pub fields_of_node : List Field
-fields_of_node = (codes "id", wanted.Text) ∷ (codes "deps", wanted.List) ∷ []
+fields_of_node = (codes "id", expected.Text) ∷ (codes "deps", expected.List) ∷ []
 
 abbrev pub fields_of_dependency : List Field
-fields_of_dependency = (codes "pkg", wanted.Text) ∷ (codes "dep_kinds", wanted.List) ∷ []
+fields_of_dependency = (codes "pkg", expected.Text) ∷ (codes "dep_kinds", expected.List) ∷ []
 
 abbrev pub fields_of_kind : List Field
-fields_of_kind = (codes "kind", wanted.Kind) ∷ (codes "target", wanted.Condition) ∷ []
+fields_of_kind = (codes "kind", expected.Kind) ∷ (codes "target", expected.Condition) ∷ []
 
 -- the value of the field is as expected
 abbrev pub Fits : Data → Field → Type 0
 Fits d field = fits field.1 (get field.0 d) ≡ true
 
 -- the error is about the first of these fields without the expected value
-pub record IsFirstWrong (fields : List Field) (d : Data) (wrong : Wrong) : Type 0 where
+pub record IsFirstWrong (fields : List Field) (d : Data) (wrong : FieldError) : Type 0 where
   pub before : List Field
   pub after : List Field
-  pub order : fields ≡ before ++ (wrong.field.now, wrong.wanted) ∷ after
+  pub order : fields ≡ before ++ (wrong.field.now, wrong.expected) ∷ after
   pub fit : All (Fits d) before
   pub misfits : IsWrong d wrong

@@ -7,7 +7,7 @@ ghost use Rattle.cargo_metadata.specs.Fields.{field_at, text_at, list_at, flag_a
 ghost use Rattle.cargo_metadata.specs.Nodes.{kind_at, condition_at};
 
 use crate::nodes::Kind;
-use crate::refusals::{Wanted, Wrong};
+use crate::refusals::{ExpectedValue, FieldError};
 use serde_json::Value;
 
 /// Returns the value of a field, or `None` if there is none.
@@ -41,42 +41,42 @@ pub fn list_at<'a>(value: &'a Value, field: &str) -> Option<&'a [Value]>
 }
 
 /// Returns the text in a field. Fails if it contains none.
-pub fn wanted_text<'a>(value: &'a Value, field: &'static str) -> Result<&'a str, Wrong>
+pub fn require_text<'a>(value: &'a Value, field: &'static str) -> Result<&'a str, FieldError>
     ensures { MatchResult result (λ s. text_at field.now (view value.now) ≡ Some s.now)
-        (λ wrong. IsWrong (view value.now) wrong × IsAt field.now Wanted.Text wrong) }
+        (λ wrong. IsWrong (view value.now) wrong × IsAt field.now ExpectedValue.Text wrong) }
 {
     match text_at(value, field) {
         Some(text) => Ok(text),
-        None => Err(Wrong {
+        None => Err(FieldError {
             field,
-            wanted: Wanted::Text,
+            expected: ExpectedValue::Text,
         }),
     }
 }
 
 /// Returns the list in a field. Fails if it contains none.
-pub fn wanted_list<'a>(value: &'a Value, field: &'static str) -> Result<&'a [Value], Wrong>
+pub fn require_list<'a>(value: &'a Value, field: &'static str) -> Result<&'a [Value], FieldError>
     ensures { MatchResult result (λ vs. list_at field.now (view value.now) ≡ Some (map view vs.now))
-        (λ wrong. IsWrong (view value.now) wrong × IsAt field.now Wanted.List wrong) }
+        (λ wrong. IsWrong (view value.now) wrong × IsAt field.now ExpectedValue.List wrong) }
 {
     match list_at(value, field) {
         Some(items) => Ok(items),
-        None => Err(Wrong {
+        None => Err(FieldError {
             field,
-            wanted: Wanted::List,
+            expected: ExpectedValue::List,
         }),
     }
 }
 
 /// Returns the boolean in a field. Fails if it contains none.
-pub fn wanted_flag(value: &Value, field: &'static str) -> Result<bool, Wrong>
+pub fn require_flag(value: &Value, field: &'static str) -> Result<bool, FieldError>
     // The result is the boolean in the field. Fails only if it contains none.
     ensures { MatchResult result (λ b. flag_at field.now (view value.now) ≡ Some b)
-        (λ wrong. IsWrong (view value.now) wrong × IsAt field.now Wanted.Flag wrong) }
+        (λ wrong. IsWrong (view value.now) wrong × IsAt field.now ExpectedValue.Flag wrong) }
 {
-    let wrong = Wrong {
+    let wrong = FieldError {
         field,
-        wanted: Wanted::Flag,
+        expected: ExpectedValue::Flag,
     };
     let found = match field_at(value, field) {
         Some(found) => found,
@@ -90,13 +90,13 @@ pub fn wanted_flag(value: &Value, field: &'static str) -> Result<bool, Wrong>
 
 /// Returns the kind of a dependency: normal if the field is missing or null. Fails if it contains anything other than
 /// `build` or `dev`.
-pub fn kind_of(value: &Value) -> Result<Kind, Wrong>
+pub fn kind_of(value: &Value) -> Result<Kind, FieldError>
     ensures { MatchResult result (λ kind. kind_at (view value.now) ≡ Some kind)
-        (λ wrong. IsWrong (view value.now) wrong × IsAt (codes "kind") Wanted.Kind wrong) }
+        (λ wrong. IsWrong (view value.now) wrong × IsAt (codes "kind") ExpectedValue.Kind wrong) }
 {
-    let wrong = Wrong {
+    let wrong = FieldError {
         field: "kind",
-        wanted: Wanted::Kind,
+        expected: ExpectedValue::Kind,
     };
     let found = match field_at(value, "kind") {
         None => return Ok(Kind::Normal),
@@ -115,9 +115,9 @@ pub fn kind_of(value: &Value) -> Result<Kind, Wrong>
 
 /// Returns the condition of a dependency: `None` if the field is missing or null. Fails if it contains anything other
 /// than a text.
-pub fn condition_of<'a>(value: &'a Value) -> Result<Option<&'a str>, Wrong>
+pub fn condition_of<'a>(value: &'a Value) -> Result<Option<&'a str>, FieldError>
     ensures { MatchResult result (λ text. condition_at (view value.now) ≡ Some (option_copied text))
-        (λ wrong. IsWrong (view value.now) wrong × IsAt (codes "target") Wanted.Condition wrong) }
+        (λ wrong. IsWrong (view value.now) wrong × IsAt (codes "target") ExpectedValue.Condition wrong) }
 {
     let found = match field_at(value, "target") {
         None => return Ok(None),
@@ -128,9 +128,9 @@ pub fn condition_of<'a>(value: &'a Value) -> Result<Option<&'a str>, Wrong>
     }
     match found.as_str() {
         Some(text) => Ok(Some(text)),
-        None => Err(Wrong {
+        None => Err(FieldError {
             field: "target",
-            wanted: Wanted::Condition,
+            expected: ExpectedValue::Condition,
         }),
     }
 }

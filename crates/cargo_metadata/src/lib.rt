@@ -15,4 +15,4 @@ pub use indexes::Indexes;
 pub use metadata::{Metadata, read};
 pub use nodes::{Dependency, Kind, KindRow, Node};
 pub use packages::Package;
-pub use refusals::{DependencyError, NodeError, Refusal, ResolveError, Wanted, Wrong};
+pub use refusals::{DependencyError, ExpectedValue, FieldError, NodeError, Refusal, ResolveError};

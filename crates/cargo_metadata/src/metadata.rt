@@ -10,10 +10,10 @@ ghost use Rattle.cargo_metadata.specs.Nodes.{IsNode};
 ghost use Rattle.cargo_metadata.specs.Documents.{IsMember, IsInResolve, IsMetadata, IsVersionOne, IsResolve};
 ghost use Rattle.cargo_metadata.specs.Documents.{IsRefused, IsFault, IsIn};
 
-use crate::fields::{field_at, wanted_list};
+use crate::fields::{field_at, require_list};
 use crate::nodes::{Node, node_of};
 use crate::packages::{Package, package_of};
-use crate::refusals::{Refusal, ResolveError, Wanted, Wrong};
+use crate::refusals::{ExpectedValue, FieldError, Refusal, ResolveError};
 use serde_json::Value;
 use std::alloc::{AllocError, Global};
 
@@ -52,13 +52,13 @@ pub fn read<'a>(alloc: Global, document: &'a Value) -> Result<Metadata<'a>, Refu
 }
 
 /// Checks that the version is 1.
-fn check_version(document: &Value) -> Result<(), Wrong>
+fn check_version(document: &Value) -> Result<(), FieldError>
     ensures { MatchResult result (λ _. IsVersionOne (view document.now))
-        (λ wrong. IsWrong (view document.now) wrong × IsAt (codes "version") Wanted.One wrong) }
+        (λ wrong. IsWrong (view document.now) wrong × IsAt (codes "version") ExpectedValue.One wrong) }
 {
-    let wrong = Wrong {
+    let wrong = FieldError {
         field: "version",
-        wanted: Wanted::One,
+        expected: ExpectedValue::One,
     };
     let found = match field_at(document, "version") {
         Some(found) => found,
@@ -71,13 +71,13 @@ fn check_version(document: &Value) -> Result<(), Wrong>
 }
 
 /// Returns the value of `resolve`.
-fn resolve_at<'a>(document: &'a Value) -> Result<&'a Value, Wrong>
+fn resolve_at<'a>(document: &'a Value) -> Result<&'a Value, FieldError>
     ensures { MatchResult result (λ resolve. IsResolve (view document.now) (view resolve.now))
-        (λ wrong. IsWrong (view document.now) wrong × IsAt (codes "resolve") Wanted.Resolve wrong) }
+        (λ wrong. IsWrong (view document.now) wrong × IsAt (codes "resolve") ExpectedValue.Resolve wrong) }
 {
-    let wrong = Wrong {
+    let wrong = FieldError {
         field: "resolve",
-        wanted: Wanted::Resolve,
+        expected: ExpectedValue::Resolve,
     };
     let found = match field_at(document, "resolve") {
         Some(found) => found,
@@ -93,9 +93,9 @@ fn resolve_at<'a>(document: &'a Value) -> Result<&'a Value, Wrong>
 /// Reads the packages.
 fn packages_at<'a>(alloc: Global, document: &'a Value) -> Result<Vec<Package<'a>>, Refusal>
     ensures { MatchResult result (λ ps. AreRowsAt IsPackage (codes "packages") (view document.now) ps.items)
-        (λ refusal. IsFault (view document.now) refusal × IsIn (codes "packages", Wanted.List) refusal) }
+        (λ refusal. IsFault (view document.now) refusal × IsIn (codes "packages", ExpectedValue.List) refusal) }
 {
-    let items = match wanted_list(document, "packages") {
+    let items = match require_list(document, "packages") {
         Ok(items) => items,
         Err(wrong) => return Err(Refusal::Field(wrong)),
     };
@@ -115,9 +115,9 @@ fn packages_at<'a>(alloc: Global, document: &'a Value) -> Result<Vec<Package<'a>
 /// Reads the ids of the workspace's members.
 fn members_at<'a>(alloc: Global, document: &'a Value) -> Result<Vec<&'a str>, Refusal>
     ensures { MatchResult result (λ ms. AreRowsAt IsMember (codes "workspace_members") (view document.now) ms.items)
-        (λ refusal. IsFault (view document.now) refusal × IsIn (codes "workspace_members", Wanted.List) refusal) }
+        (λ refusal. IsFault (view document.now) refusal × IsIn (codes "workspace_members", ExpectedValue.List) refusal) }
 {
-    let items = match wanted_list(document, "workspace_members") {
+    let items = match require_list(document, "workspace_members") {
         Ok(items) => items,
         Err(wrong) => return Err(Refusal::Field(wrong)),
     };
@@ -139,7 +139,7 @@ fn nodes_at<'a>(alloc: Global, resolve: &'a Value) -> Result<Vec<Node<'a>>, Reso
     ensures { MatchResult result (λ ns. AreRowsAt IsNode (codes "nodes") (view resolve.now) ns.items)
         (λ refusal. IsInResolve (view resolve.now) refusal) }
 {
-    let items = match wanted_list(resolve, "nodes") {
+    let items = match require_list(resolve, "nodes") {
         Ok(items) => items,
         Err(wrong) => return Err(ResolveError::Field(wrong)),
     };

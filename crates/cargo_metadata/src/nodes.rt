@@ -5,8 +5,8 @@ ghost use Rattle.serde_json.specs.View.{view};
 ghost use Rattle.cargo_metadata.specs.Fields.{IsFirstWrong, fields_of_kind};
 ghost use Rattle.cargo_metadata.specs.Nodes.{IsKindRow, IsDependency, IsNode, IsInDependency, IsInNode};
 
-use crate::fields::{condition_of, kind_of, text_at, wanted_list, wanted_text};
-use crate::refusals::{DependencyError, NodeError, Wrong};
+use crate::fields::{condition_of, kind_of, require_list, require_text, text_at};
+use crate::refusals::{DependencyError, FieldError, NodeError};
 use serde_json::Value;
 use std::alloc::{AllocError, Global};
 
@@ -42,7 +42,7 @@ pub struct Node<'a> {
 }
 
 /// Reads a kind and its condition from an object. Fails at the first of the two that is not as expected.
-fn kind_row<'a>(value: &'a Value) -> Result<KindRow<'a>, Wrong>
+fn kind_row<'a>(value: &'a Value) -> Result<KindRow<'a>, FieldError>
     ensures { MatchResult result (λ row. IsKindRow (view value.now) row)
         (λ wrong. IsFirstWrong fields_of_kind (view value.now) wrong) }
 {
@@ -56,11 +56,11 @@ fn dependency_of<'a>(alloc: Global, value: &'a Value) -> Result<Dependency<'a>, 
     ensures { MatchResult result (λ d. IsDependency (view value.now) d)
         (λ wrong. IsInDependency (view value.now) wrong) }
 {
-    let on = match wanted_text(value, "pkg") {
+    let on = match require_text(value, "pkg") {
         Ok(text) => text,
         Err(wrong) => return Err(DependencyError::Field(wrong)),
     };
-    let items = match wanted_list(value, "dep_kinds") {
+    let items = match require_list(value, "dep_kinds") {
         Ok(items) => items,
         Err(wrong) => return Err(DependencyError::Field(wrong)),
     };
@@ -82,11 +82,11 @@ fn dependency_of<'a>(alloc: Global, value: &'a Value) -> Result<Dependency<'a>, 
 pub fn node_of<'a>(alloc: Global, value: &'a Value) -> Result<Node<'a>, NodeError>
     ensures { MatchResult result (λ n. IsNode (view value.now) n) (λ wrong. IsInNode (view value.now) wrong) }
 {
-    let id = match wanted_text(value, "id") {
+    let id = match require_text(value, "id") {
         Ok(text) => text,
         Err(wrong) => return Err(NodeError::Field(wrong)),
     };
-    let items = match wanted_list(value, "deps") {
+    let items = match require_list(value, "deps") {
         Ok(items) => items,
         Err(wrong) => return Err(NodeError::Field(wrong)),
     };

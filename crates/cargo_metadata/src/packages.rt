@@ -5,8 +5,8 @@ ghost use Rattle.serde_json.specs.View.{view};
 ghost use Rattle.cargo_metadata.specs.Fields.{IsFirstWrong, fields_of_package};
 ghost use Rattle.cargo_metadata.specs.Packages.{IsPackage, is_private, is_macro, has_macro_kind, is_macro_kind};
 
-use crate::fields::{list_at, text_at, wanted_text};
-use crate::refusals::Wrong;
+use crate::fields::{list_at, require_text, text_at};
+use crate::refusals::FieldError;
 use serde_json::Value;
 
 /// A package.
@@ -25,13 +25,13 @@ pub struct Package<'a> {
 
 /// Reads a package from an object. Fails at the first of its id, name and version that is
 /// not a text.
-pub fn package_of<'a>(value: &'a Value) -> Result<Package<'a>, Wrong>
+pub fn package_of<'a>(value: &'a Value) -> Result<Package<'a>, FieldError>
     ensures { MatchResult result (λ p. IsPackage (view value.now) p)
         (λ wrong. IsFirstWrong fields_of_package (view value.now) wrong) }
 {
-    let id = wanted_text(value, "id")?;
-    let name = wanted_text(value, "name")?;
-    let version = wanted_text(value, "version")?;
+    let id = require_text(value, "id")?;
+    let name = require_text(value, "name")?;
+    let version = require_text(value, "version")?;
     let license = text_at(value, "license");
     let license_file = text_at(value, "license_file");
     let is_private = is_private(value);

@@ -7,7 +7,7 @@ use std::alloc::AllocError;
 
 /// The value that is expected in a field.
 #[derive(Clone, Copy, Debug, PartialEq, Eq, Drop)]
-pub enum Wanted {
+pub enum ExpectedValue {
     Text,
     List,
     /// The number 1.
@@ -26,24 +26,24 @@ pub enum Wanted {
 
 /// A field without the expected value.
 #[derive(Clone, Copy, Debug, PartialEq, Eq, Drop)]
-pub struct Wrong {
+pub struct FieldError {
     pub field: &'static str,
-    pub wanted: Wanted,
+    pub expected: ExpectedValue,
 }
 
 /// The reason why a dependency is rejected.
 #[derive(Debug, Drop)]
 pub enum DependencyError {
-    Field(Wrong),
+    Field(FieldError),
     /// A field of the kind at this index.
-    Kind(usize, Wrong),
+    Kind(usize, FieldError),
     Memory(AllocError),
 }
 
 /// The reason why a node is rejected.
 #[derive(Debug, Drop)]
 pub enum NodeError {
-    Field(Wrong),
+    Field(FieldError),
     /// The dependency at this index is rejected.
     Dependency(usize, DependencyError),
     Memory(AllocError),
@@ -52,7 +52,7 @@ pub enum NodeError {
 /// The reason why the value of `resolve` is rejected.
 #[derive(Debug, Drop)]
 pub enum ResolveError {
-    Field(Wrong),
+    Field(FieldError),
     /// The node at this index is rejected.
     Node(usize, NodeError),
     Memory(AllocError),
@@ -62,9 +62,9 @@ pub enum ResolveError {
 #[derive(Debug, Drop)]
 pub enum Refusal {
     /// A field of the document.
-    Field(Wrong),
+    Field(FieldError),
     /// A field of the package at this index.
-    Package(usize, Wrong),
+    Package(usize, FieldError),
     /// The member of the workspace at this index is not a text.
     Member(usize),
     /// The value of `resolve` is rejected.

@@ -1,26 +1,28 @@
 //! The messages of refusals: the path in the document, and the value that is expected there.
 
-use crate::refusals::{DependencyError, NodeError, Refusal, ResolveError, Wanted, Wrong};
+use crate::refusals::{
+    DependencyError, ExpectedValue, FieldError, NodeError, Refusal, ResolveError,
+};
 use std::fmt::{self, Display, Formatter, Write};
 
-impl Display for Wanted {
+impl Display for ExpectedValue {
     fn fmt<W: Write>(&self, f: &mut Formatter<W>) -> fmt::Result {
         match self {
-            Wanted::Text => write!(f, "a text is wanted"),
-            Wanted::List => write!(f, "a list is wanted"),
-            Wanted::One => write!(f, "1 is wanted"),
-            Wanted::Resolve => write!(f, "an object is wanted; `--no-deps` leaves it out"),
-            Wanted::Kind => write!(f, "null, \"build\" or \"dev\" is wanted"),
-            Wanted::Condition => write!(f, "a text or null is wanted"),
-            Wanted::Flag => write!(f, "true or false is wanted"),
-            Wanted::Features => write!(f, "an object of lists of texts is wanted"),
+            ExpectedValue::Text => write!(f, "expected a string"),
+            ExpectedValue::List => write!(f, "expected an array"),
+            ExpectedValue::One => write!(f, "expected 1"),
+            ExpectedValue::Resolve => write!(f, "expected an object; `--no-deps` leaves it out"),
+            ExpectedValue::Kind => write!(f, "expected null, \"build\" or \"dev\""),
+            ExpectedValue::Condition => write!(f, "expected a string or null"),
+            ExpectedValue::Flag => write!(f, "expected true or false"),
+            ExpectedValue::Features => write!(f, "expected an object of arrays of strings"),
         }
     }
 }
 
-impl Display for Wrong {
+impl Display for FieldError {
     fn fmt<W: Write>(&self, f: &mut Formatter<W>) -> fmt::Result {
-        write!(f, "{}: {}", self.field, self.wanted)
+        write!(f, "{}: {}", self.field, self.expected)
     }
 }
 
@@ -59,7 +61,7 @@ impl Display for Refusal {
         match self {
             Refusal::Field(wrong) => write!(f, "{wrong}"),
             Refusal::Package(i, wrong) => write!(f, "packages[{i}].{wrong}"),
-            Refusal::Member(i) => write!(f, "workspace_members[{i}]: {}", Wanted::Text),
+            Refusal::Member(i) => write!(f, "workspace_members[{i}]: {}", ExpectedValue::Text),
             Refusal::Resolve(wrong) => write!(f, "resolve{wrong}"),
             Refusal::Memory(error) => write!(f, "{error}"),
         }

@@ -12,33 +12,33 @@ use Rattle.serde_json.specs.declared.value.Value.{Value}
 use Rattle.cargo_metadata.specs.Fields.{Field, Fits, IsFirstWrong, are_texts, is_texts, text_at, flag_at}
 use Rattle.cargo_metadata.specs.Nodes.{kind_at, condition_at}
 use Rattle.cargo_metadata.specs.declared.nodes.Kind.{Kind}
-use Rattle.cargo_metadata.specs.declared.refusals.Wanted.TheVariants as wanted
-use Rattle.cargo_metadata.specs.declared.refusals.Wrong.{Wrong}
+use Rattle.cargo_metadata.specs.declared.refusals.ExpectedValue.TheVariants as expected
+use Rattle.cargo_metadata.specs.declared.refusals.FieldError.{FieldError}
 use Rattle.cargo_metadata.proofs.Elements.{elements_of}
 use Rattle.declared_features.specs.Refusals.{fields_of_subject, fields_of_flags}
 
 -- ---- fields before and after
 
 -- the first error of fields that come after others, which are as expected
-pub after_fit : (before fields : List Field) (d : Data) (wrong : Wrong) → All (Fits d) before
+pub after_fit : (before fields : List Field) (d : Data) (wrong : FieldError) → All (Fits d) before
     → IsFirstWrong fields d wrong → IsFirstWrong (before ++ fields) d wrong
 after_fit before fields d wrong fit first = record {
   before = before ++ first.before;
   after = first.after;
   order = ap (λ (l : List Field). before ++ l) first.order
-      ∙ sym (append_assoc before first.before ((wrong.field.now, wrong.wanted) ∷ first.after));
+      ∙ sym (append_assoc before first.before ((wrong.field.now, wrong.expected) ∷ first.after));
   fit = All-append (Fits d) before first.before fit first.fit;
   misfits = first.misfits;
 }
 
 -- and of fields before others
-pub before_more : (fields more : List Field) (d : Data) (wrong : Wrong) → IsFirstWrong fields d wrong
+pub before_more : (fields more : List Field) (d : Data) (wrong : FieldError) → IsFirstWrong fields d wrong
     → IsFirstWrong (fields ++ more) d wrong
 before_more fields more d wrong first = record {
   before = first.before;
   after = first.after ++ more;
   order = ap (λ (l : List Field). l ++ more) first.order
-      ∙ append_assoc first.before ((wrong.field.now, wrong.wanted) ∷ first.after) more;
+      ∙ append_assoc first.before ((wrong.field.now, wrong.expected) ∷ first.after) more;
   fit = first.fit;
   misfits = first.misfits;
 }
@@ -46,20 +46,20 @@ before_more fields more d wrong first = record {
 pub subject_fits : (d : Data) (name : List ℕ) (kind : Kind) (condition : Option (List ℕ))
     → text_at (codes "name") d ≡ Some name → kind_at d ≡ Some kind → condition_at d ≡ Some condition → All (Fits d) fields_of_subject
 subject_fits d name kind condition named of_kind under =
-    All-cons (Fits d) (codes "name", wanted.Text)
-    ((codes "kind", wanted.Kind) ∷ (codes "target", wanted.Condition) ∷ [])
+    All-cons (Fits d) (codes "name", expected.Text)
+    ((codes "kind", expected.Kind) ∷ (codes "target", expected.Condition) ∷ [])
     (ap (λ (o : Option (List ℕ)). is_some o) named)
-    (All-cons (Fits d) (codes "kind", wanted.Kind) ((codes "target", wanted.Condition) ∷ [])
+    (All-cons (Fits d) (codes "kind", expected.Kind) ((codes "target", expected.Condition) ∷ [])
     (ap (λ (o : Option Kind). is_some o) of_kind)
-    (All-cons (Fits d) (codes "target", wanted.Condition) []
+    (All-cons (Fits d) (codes "target", expected.Condition) []
     (ap (λ (o : Option (Option (List ℕ))). is_some o) under) (All-nil (Fits d))))
 
 pub flags_fit : (d : Data) (optional default : Bool) → flag_at (codes "optional") d ≡ Some optional
     → flag_at (codes "uses_default_features") d ≡ Some default → All (Fits d) fields_of_flags
 flags_fit d optional default first second =
-    All-cons (Fits d) (codes "optional", wanted.Flag) ((codes "uses_default_features", wanted.Flag) ∷ [])
+    All-cons (Fits d) (codes "optional", expected.Flag) ((codes "uses_default_features", expected.Flag) ∷ [])
     (ap (λ (o : Option Bool). is_some o) first)
-    (All-cons (Fits d) (codes "uses_default_features", wanted.Flag) []
+    (All-cons (Fits d) (codes "uses_default_features", expected.Flag) []
     (ap (λ (o : Option Bool). is_some o) second) (All-nil (Fits d)))
 
 -- ---- lists of texts

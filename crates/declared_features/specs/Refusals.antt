@@ -5,7 +5,7 @@ use Rattle.serde_json.specs.Data.{Data}
 use Rattle.serde_json.specs.Find.{as_str}
 use Rattle.cargo_metadata.specs.Fields.{Field, Fits, IsFirstWrong}
 use Rattle.cargo_metadata.specs.Rows.{HasRowsAt, IsFirstAt}
-use Rattle.cargo_metadata.specs.declared.refusals.Wanted.TheVariants as wanted
+use Rattle.cargo_metadata.specs.declared.refusals.ExpectedValue.TheVariants as expected
 use Rattle.declared_features.specs.Documents.{IsText, IsDeclared, IsManifest}
 use Rattle.declared_features.specs.declared.manifests.DependencyError.{DependencyError}
 use Rattle.declared_features.specs.declared.manifests.DependencyError.TheVariants as in_declared
@@ -18,19 +18,19 @@ use Rattle.declared_features.specs.declared.manifests.Refusal.TheVariants as ref
 
 abbrev pub fields_of_subject : List Field
 fields_of_subject =
-    (codes "name", wanted.Text) ∷ (codes "kind", wanted.Kind) ∷ (codes "target", wanted.Condition) ∷ []
+    (codes "name", expected.Text) ∷ (codes "kind", expected.Kind) ∷ (codes "target", expected.Condition) ∷ []
 
 abbrev pub fields_of_flags : List Field
-fields_of_flags = (codes "optional", wanted.Flag) ∷ (codes "uses_default_features", wanted.Flag) ∷ []
+fields_of_flags = (codes "optional", expected.Flag) ∷ (codes "uses_default_features", expected.Flag) ∷ []
 
 abbrev pub fields_of_declared : List Field
-fields_of_declared = fields_of_subject ++ fields_of_flags ++ (codes "features", wanted.List) ∷ []
+fields_of_declared = fields_of_subject ++ fields_of_flags ++ (codes "features", expected.List) ∷ []
 
 abbrev pub fields_of_manifest : List Field
-fields_of_manifest = (codes "dependencies", wanted.List) ∷ (codes "features", wanted.Features) ∷ []
+fields_of_manifest = (codes "dependencies", expected.List) ∷ (codes "features", expected.Features) ∷ []
 
 abbrev pub fields_of_document : List Field
-fields_of_document = (codes "packages", wanted.List) ∷ []
+fields_of_document = (codes "packages", expected.List) ∷ []
 
 -- ---- the first error
 

@@ -14,9 +14,9 @@ ghost use Rattle.declared_features.specs.Refusals.{IsRefused};
 
 use crate::entries::{FeatureEntry, entry_of};
 use cargo_metadata::fields::{
-    condition_of, field_at, kind_of, list_at, text_at, wanted_flag, wanted_list, wanted_text,
+    condition_of, field_at, kind_of, list_at, require_flag, require_list, require_text, text_at,
 };
-use cargo_metadata::{Kind, Wanted, Wrong};
+use cargo_metadata::{ExpectedValue, FieldError, Kind};
 use serde_json::Value;
 use std::alloc::{AllocError, Global};
 use std::fmt::{self, Display, Formatter, Write};
@@ -57,7 +57,7 @@ pub struct Manifest<'a> {
 /// The reason why a declared dependency is refused.
 #[derive(Debug, Drop)]
 pub enum DependencyError {
-    Field(Wrong),
+    Field(FieldError),
     /// The feature at this index is not a text.
     Feature(usize),
     Memory(AllocError),
@@ -66,7 +66,7 @@ pub enum DependencyError {
 /// The reason why the declarations of a package are refused.
 #[derive(Debug, Drop)]
 pub enum ManifestError {
-    Field(Wrong),
+    Field(FieldError),
     /// The dependency at this index is refused.
     Dependency(usize, DependencyError),
     Memory(AllocError),
@@ -75,7 +75,7 @@ pub enum ManifestError {
 /// The reason why the declarations of the packages are refused.
 #[derive(Debug, Drop)]
 pub enum Refusal {
-    Field(Wrong),
+    Field(FieldError),
     /// The declarations of the package at this index are refused.
     Package(usize, ManifestError),
     Memory(AllocError),
@@ -87,7 +87,7 @@ fn requested_of<'a>(alloc: Global, value: &'a Value) -> Result<Vec<&'a str>, Dep
     ensures fault { IfErr result (λ fault. All (Fits (view value.now)) (fields_of_subject ++ fields_of_flags)
         → IsInDeclared (view value.now) fault) }
 {
-    let items = match wanted_list(value, "features") {
+    let items = match require_list(value, "features") {
         Ok(items) => items,
         Err(wrong) => return Err(DependencyError::Field(wrong)),
     };
@@ -104,24 +104,24 @@ fn requested_of<'a>(alloc: Global, value: &'a Value) -> Result<Vec<&'a str>, Dep
 }
 
 /// Returns the flags of a declared dependency: whether it is optional, and whether it uses the default features.
-fn flags_of(value: &Value) -> Result<(bool, bool), Wrong>
+fn flags_of(value: &Value) -> Result<(bool, bool), FieldError>
     ensures optional { IfOk result (λ flags. flag_at (codes "optional") (view value.now) ≡ Some flags.0) }
     ensures default { IfOk result (λ flags. flag_at (codes "uses_default_features") (view value.now) ≡ Some flags.1) }
     ensures fault { IfErr result (IsFirstWrong fields_of_flags (view value.now)) }
 {
-    let is_optional = wanted_flag(value, "optional")?;
-    let uses_default = wanted_flag(value, "uses_default_features")?;
+    let is_optional = require_flag(value, "optional")?;
+    let uses_default = require_flag(value, "uses_default_features")?;
     Ok((is_optional, uses_default))
 }
 
 /// Returns the name, the kind and the condition of a declared dependency.
-fn subject_of<'a>(value: &'a Value) -> Result<(&'a str, Kind, Option<&'a str>), Wrong>
+fn subject_of<'a>(value: &'a Value) -> Result<(&'a str, Kind, Option<&'a str>), FieldError>
     ensures name { IfOk result (λ subject. text_at (codes "name") (view value.now) ≡ Some subject.0.now) }
     ensures kind { IfOk result (λ subject. kind_at (view value.now) ≡ Some subject.1) }
     ensures condition { IfOk result (λ subject. condition_at (view value.now) ≡ Some (option_copied subject.2)) }
     ensures fault { IfErr result (IsFirstWrong fields_of_subject (view value.now)) }
 {
-    let name = wanted_text(value, "name")?;
+    let name = require_text(value, "name")?;
     let kind = kind_of(value)?;
     let condition = condition_of(value)?;
     Ok((name, kind, condition))
@@ -223,7 +223,7 @@ fn entries_of<'a>(
 fn features_of<'a>(alloc: Global, value: &'a Value) -> Result<Option<Vec<Feature<'a>>>, AllocError>
     ensures features { IfOk result (λ found. IfSome found (λ features. AreFeaturesOf (view value.now) features.items)) }
     ensures fits { IfOk result
-        (λ found. is_some found ≡ fits Wanted.Features (get (codes "features") (view value.now))) }
+        (λ found. is_some found ≡ fits ExpectedValue.Features (get (codes "features") (view value.now))) }
 {
     let Some(found) = field_at(value, "features") else {
         return Ok(None);
@@ -250,7 +250,7 @@ fn dependencies_of<'a>(alloc: Global, value: &'a Value) -> Result<Vec<Declared<'
         (λ dependencies. AreRowsAt IsDeclared (codes "dependencies") (view value.now) dependencies.items)
         (λ fault. IsInManifest (view value.now) fault) }
 {
-    let items = match wanted_list(value, "dependencies") {
+    let items = match require_list(value, "dependencies") {
         Ok(items) => items,
         Err(wrong) => return Err(ManifestError::Field(wrong)),
     };
@@ -277,9 +277,9 @@ fn manifest_of<'a>(alloc: Global, value: &'a Value) -> Result<Manifest<'a>, Mani
     let features = match features_of(alloc, value) {
         Ok(Some(features)) => features,
         Ok(None) => {
-            return Err(ManifestError::Field(Wrong {
+            return Err(ManifestError::Field(FieldError {
                 field: "features",
-                wanted: Wanted::Features,
+                expected: ExpectedValue::Features,
             }));
         }
         Err(error) => return Err(ManifestError::Memory(error)),
@@ -301,7 +301,7 @@ pub fn read_manifests<'a>(alloc: Global, document: &'a Value) -> Result<Vec<Mani
         (λ manifests. AreRowsAt IsManifest (codes "packages") (view document.now) manifests.items)
         (λ refusal. IsRefused (view document.now) refusal) }
 {
-    let items = match wanted_list(document, "packages") {
+    let items = match require_list(document, "packages") {
         Ok(items) => items,
         Err(wrong) => return Err(Refusal::Field(wrong)),
     };
@@ -323,7 +323,7 @@ impl Display for DependencyError {
     fn fmt<W: Write>(&self, f: &mut Formatter<W>) -> fmt::Result {
         match self {
             DependencyError::Field(wrong) => write!(f, ".{wrong}"),
-            DependencyError::Feature(i) => write!(f, ".features[{i}]: {}", Wanted::Text),
+            DependencyError::Feature(i) => write!(f, ".features[{i}]: {}", ExpectedValue::Text),
             DependencyError::Memory(error) => write!(f, ": {error}"),
         }
     }

@@ -61,9 +61,9 @@ fn place_in_key(
         start: byte,
         end: byte.saturating_add(1),
     };
-    match locations.located_part(alloc, key, part)? {
+    match locations.location_of_part(alloc, key, part)? {
         Some(at) => Ok(Some(at)),
-        None => locations.located_key(alloc, key),
+        None => locations.location_in_key(alloc, key),
     }
 }
 

@@ -6,7 +6,7 @@ use graph_queries::graph::{Graph, source_of};
 use graph_queries::lines::{push, push_comma, shown, shown_targets};
 use graph_queries::pairs::{Pair, pairs_of};
 use graph_queries::query::GraphQuery;
-use key_answers::answer::{Answer, Refusal, Status, unusable_words};
+use key_answers::answer::{Answer, QueryError, Status, argument_error};
 use key_answers::json_lines;
 use key_answers::printing::shown_name;
 use key_answers::targets::TargetList;
@@ -75,7 +75,7 @@ fn place_of(word: &str) -> Option<usize> {
 }
 
 /// Parses the kinds of changes that make the run fail. Without `--fail-on`, none does.
-pub fn kinds_of(alloc: Global, words: Option<&str>) -> Result<ChangeKinds, Refusal> {
+pub fn kinds_of(alloc: Global, words: Option<&str>) -> Result<ChangeKinds, QueryError> {
     let mut kinds = [false; 7];
     let Some(words) = words else {
         return Ok(kinds);
@@ -83,7 +83,7 @@ pub fn kinds_of(alloc: Global, words: Option<&str>) -> Result<ChangeKinds, Refus
     for word in words.split(',') {
         let Some(place) = place_of(word) else {
             let text = no_kind(alloc, word)?;
-            return Err(unusable_words(alloc, text.as_str()));
+            return Err(argument_error(alloc, text.as_str()));
         };
         if let Some(kind) = kinds.get_mut(place) {
             *kind = true;

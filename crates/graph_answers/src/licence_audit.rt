@@ -12,7 +12,7 @@ use crate::policies::AuditPolicy;
 use crate::query::{GraphArguments, GraphQuery, unusable_words};
 use crate::unused::report_unused;
 use cargo_platform::shown_text;
-use key_answers::answer::{Answer, Refusal, Status};
+use key_answers::answer::{Answer, QueryError, Status};
 use key_answers::printing::shown_name;
 use licence_audits::{Exception, Finding, PackageFinding, PackageSpec, Subject, audit};
 use licence_policies::{ExceptionError, exception_of};
@@ -42,11 +42,13 @@ fn no_licence(alloc: Global, place: Place<'_>, error: &ParseError) -> Result<Str
 }
 
 /// Parses an entry as a licence. The message of an error names `place`.
-fn licence_of(alloc: Global, place: Place<'_>, entry: &str) -> Result<Licence, Refusal> {
+fn licence_of(alloc: Global, place: Place<'_>, entry: &str) -> Result<Licence, QueryError> {
     match Licence::from_str(alloc, entry) {
         Ok(licence) => Ok(licence),
-        Err(ReadError::Parse(error)) => Err(Refusal::Unusable(no_licence(alloc, place, &error)?)),
-        Err(ReadError::Memory(refused)) => Err(Refusal::Memory(refused)),
+        Err(ReadError::Parse(error)) => Err(QueryError::Unusable(no_licence(
+            alloc, place, &error,
+        )?)),
+        Err(ReadError::Memory(refused)) => Err(QueryError::Memory(refused)),
     }
 }
 
@@ -56,7 +58,7 @@ fn add_entry(
     alloc: Global,
     place: Place<'_>,
     entry: &str,
-) -> Result<(), Refusal> {
+) -> Result<(), QueryError> {
     let licence = licence_of(alloc, place, entry)?;
     audit.messages.add_entry(alloc, place, &licence)?;
     audit.licences.push(licence).map_err(AllocError::from)?;
@@ -64,7 +66,7 @@ fn add_entry(
 }
 
 /// Adds the entries of `--allow`, which are separated by commas.
-fn add_list(audit: &mut Audit<'_>, alloc: Global, list: &str) -> Result<(), Refusal> {
+fn add_list(audit: &mut Audit<'_>, alloc: Global, list: &str) -> Result<(), QueryError> {
     for entry in list.split(',') {
         add_entry(audit, alloc, Place::Option, entry)?;
     }
@@ -72,7 +74,12 @@ fn add_list(audit: &mut Audit<'_>, alloc: Global, list: &str) -> Result<(), Refu
 }
 
 /// Adds the entries of a file, one per line. Empty lines and lines that begin with `#` are skipped.
-fn add_lines(audit: &mut Audit<'_>, alloc: Global, file: &str, text: &str) -> Result<(), Refusal> {
+fn add_lines(
+    audit: &mut Audit<'_>,
+    alloc: Global,
+    file: &str,
+    text: &str,
+) -> Result<(), QueryError> {
     let file = shown_text(alloc, file)?;
     let mut number: usize = 0;
     for line in text.lines() {
@@ -105,11 +112,11 @@ fn no_exception(alloc: Global, word: &str, error: &ExceptionError) -> Result<Str
 }
 
 /// Parses the exceptions of the arguments.
-fn add_exceptions(audit: &mut Audit<'_>, alloc: Global) -> Result<(), Refusal> {
+fn add_exceptions(audit: &mut Audit<'_>, alloc: Global) -> Result<(), QueryError> {
     for word in audit.except {
         match exception_of(alloc, word) {
             Ok(exception) => audit.exceptions.push(exception).map_err(AllocError::from)?,
-            Err(ExceptionError::Memory(refused)) => return Err(Refusal::Memory(refused)),
+            Err(ExceptionError::Memory(refused)) => return Err(QueryError::Memory(refused)),
             Err(error) => {
                 let text = no_exception(alloc, word, &error)?;
                 return Err(unusable_words(alloc, text.as_str()));
@@ -170,7 +177,7 @@ impl<'a> Audit<'a> {
         alloc: Global,
         arguments: &GraphArguments<'a>,
         policy: Option<AuditPolicy>,
-    ) -> Result<Option<Audit<'a>>, Refusal> {
+    ) -> Result<Option<Audit<'a>>, QueryError> {
         if let Some(text) = misplaced(arguments) {
             return Err(unusable_words(alloc, text));
         }

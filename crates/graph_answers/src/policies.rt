@@ -3,7 +3,7 @@
 use crate::query::{GraphArguments, Requested};
 use cargo_platform::{shown_start, shown_text};
 use diagnostics::LintLevel;
-use key_answers::answer::Refusal;
+use key_answers::answer::QueryError;
 use known_targets::{KnownTarget, RUSTC_VERSION};
 use licence_audits::PackageSpec;
 use licence_policies::{GraphTable, LicenceTable, Policy, PolicySource};
@@ -58,7 +58,7 @@ fn unknown_targets(
 pub fn policy_of(
     alloc: Global,
     arguments: &GraphArguments<'_>,
-) -> Result<Option<GivenPolicy>, Refusal> {
+) -> Result<Option<GivenPolicy>, QueryError> {
     let Some((file, text)) = arguments.policy else {
         return Ok(None);
     };
@@ -66,7 +66,7 @@ pub fn policy_of(
     let policy = Policy::read(alloc, file.as_str(), text)?;
     let messages = policy.rendered(alloc)?;
     if !policy.is_valid() {
-        return Err(Refusal::Unusable(messages));
+        return Err(QueryError::Unusable(messages));
     }
     let Policy {
         graph,
@@ -77,7 +77,7 @@ pub fn policy_of(
     if arguments.targets.is_empty() && arguments.facts_of.is_none() {
         let unknown = unknown_targets(alloc, &graph, &source)?;
         if !unknown.is_empty() {
-            return Err(Refusal::Unusable(unknown));
+            return Err(QueryError::Unusable(unknown));
         }
     }
     let mut graph = graph;

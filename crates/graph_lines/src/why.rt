@@ -9,7 +9,7 @@ use graph_queries::graph::Graph;
 use graph_queries::lines::{joined_names, push, push_comma, shown_count};
 use graph_queries::packages::name_and_version;
 use graph_queries::query::GraphQuery;
-use key_answers::answer::{Answer, Status, answered, unusable};
+use key_answers::answer::{Answer, Status, answer_or_error, file_error};
 use key_answers::json_lines;
 use key_answers::printing::shown_name;
 use key_answers::targets::TargetList;
@@ -130,7 +130,7 @@ pub fn show_why(
     }
     let name = shown_name(alloc, query.of)?;
     let reason = format!(in alloc; "no package of the graph is named {name}")?;
-    answered(alloc, Err(unusable(alloc, file, reason.as_str())))
+    answer_or_error(alloc, Err(file_error(alloc, file, reason.as_str())))
 }
 
 /// Returns the edge of a step.

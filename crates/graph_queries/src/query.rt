@@ -1,7 +1,7 @@
 //! The arguments of `graph`: as they are given, and as a checked query.
 
-use key_answers::answer::Refusal;
-pub use key_answers::answer::unusable_words;
+use key_answers::answer::QueryError;
+pub use key_answers::answer::argument_error;
 use key_answers::printing::shown_name;
 use key_answers::targets::{AllTargets, TargetList, names_of};
 use known_targets::{COUNT, KnownTarget, RUSTC_VERSION, TargetSet};
@@ -127,19 +127,19 @@ fn no_target(alloc: Global, name: &str) -> Result<String, AllocError> {
 }
 
 /// Returns the known target with this name, or refuses a name that no known target has.
-fn target_of(alloc: Global, name: &str) -> Result<KnownTarget, Refusal> {
+fn target_of(alloc: Global, name: &str) -> Result<KnownTarget, QueryError> {
     match KnownTarget::by_name(name) {
         Some(target) => Ok(target),
         None => {
             let text = no_target(alloc, name)?;
-            Err(unusable_words(alloc, text.as_str()))
+            Err(argument_error(alloc, text.as_str()))
         }
     }
 }
 
 /// Returns the known targets with the given names, or all of them if no name or a file is given. Targets of a file are
 /// looked up later.
-fn targets_of(alloc: Global, arguments: &GraphArguments<'_>) -> Result<TargetSet, Refusal> {
+fn targets_of(alloc: Global, arguments: &GraphArguments<'_>) -> Result<TargetSet, QueryError> {
     let names = arguments.targets;
     if names.is_empty() || arguments.facts_of.is_some() {
         return Ok(TargetSet::all());
@@ -159,7 +159,7 @@ fn no_kind(alloc: Global, word: &str) -> Result<String, AllocError> {
 }
 
 /// Parses the dependency kinds of `--edges`. Without that option, all kinds are followed.
-fn kinds_of(alloc: Global, words: Option<&str>) -> Result<Kinds, Refusal> {
+fn kinds_of(alloc: Global, words: Option<&str>) -> Result<Kinds, QueryError> {
     let Some(words) = words else {
         return Ok(ALL_KINDS);
     };
@@ -175,7 +175,7 @@ fn kinds_of(alloc: Global, words: Option<&str>) -> Result<Kinds, Refusal> {
             "dev" => kinds.dev = true,
             _ => {
                 let text = no_kind(alloc, word)?;
-                return Err(unusable_words(alloc, text.as_str()));
+                return Err(argument_error(alloc, text.as_str()));
             }
         }
     }
@@ -183,17 +183,20 @@ fn kinds_of(alloc: Global, words: Option<&str>) -> Result<Kinds, Refusal> {
 }
 
 /// Parses the side of `--side`. Without that option, both sides are selected.
-fn side_of(alloc: Global, word: Option<&str>) -> Result<Option<Side>, Refusal> {
+fn side_of(alloc: Global, word: Option<&str>) -> Result<Option<Side>, QueryError> {
     match word {
         None => Ok(None),
         Some("target") => Ok(Some(Side::Target)),
         Some("host") => Ok(Some(Side::Host)),
-        Some(_) => Err(unusable_words(alloc, "--side names target or host")),
+        Some(_) => Err(argument_error(alloc, "--side names target or host")),
     }
 }
 
 /// Returns the known target that `--host` names, if any. A host in a file is looked up later.
-fn host_of(alloc: Global, arguments: &GraphArguments<'_>) -> Result<Option<KnownTarget>, Refusal> {
+fn host_of(
+    alloc: Global,
+    arguments: &GraphArguments<'_>,
+) -> Result<Option<KnownTarget>, QueryError> {
     match arguments.host {
         Some(name) if arguments.facts_of.is_none() => Ok(Some(target_of(alloc, name)?)),
         _ => Ok(None),
@@ -273,17 +276,17 @@ impl<'a> GraphQuery<'a> {
     /// Refuses an unknown word of `--show`, one of `--show why` and `--of` without the other, options that `--against`
     /// needs or excludes, and the name of an unknown target, host, side or dependency kind; targets and hosts of a file
     /// are not checked here. Fails if memory is refused.
-    pub fn of(alloc: Global, arguments: &GraphArguments<'a>) -> Result<GraphQuery<'a>, Refusal> {
+    pub fn of(alloc: Global, arguments: &GraphArguments<'a>) -> Result<GraphQuery<'a>, QueryError> {
         let Some(show) = show_of(arguments.show) else {
             let text = "--show names packages, edges, targets, why, features, unified or all";
-            return Err(unusable_words(alloc, text));
+            return Err(argument_error(alloc, text));
         };
         if arguments.of.is_some() != (show == Show::Why) {
             let text = "`--show why` and `--of NAME` go together";
-            return Err(unusable_words(alloc, text));
+            return Err(argument_error(alloc, text));
         }
         if let Some(text) = misplaced(arguments) {
-            return Err(unusable_words(alloc, text));
+            return Err(argument_error(alloc, text));
         }
         let targets = targets_of(alloc, arguments)?;
         let kinds = kinds_of(alloc, arguments.edges)?;

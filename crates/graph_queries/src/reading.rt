@@ -10,8 +10,8 @@ use cargo_metadata::fields::text_at;
 use cargo_metadata::graphs::{Linked, link};
 use cargo_metadata::{Metadata, read};
 use cargo_platform::shown_text;
-use declared_features::{Declarations, DeclaredGraph, Refusal as Undeclared};
-use key_answers::answer::{Refusal, unusable};
+use declared_features::{Declarations, DeclaredGraph, QueryError as Undeclared};
+use key_answers::answer::{QueryError, file_error};
 use key_answers::printing::shown_name;
 use serde_json::{Error, Value};
 use std::alloc::{AllocError, Global};
@@ -22,26 +22,26 @@ pub enum Rejected {
     /// The document is invalid or unsupported, for this reason.
     Document(String),
     /// Arguments or another file are invalid, or memory is refused.
-    Refused(Refusal),
+    Refused(QueryError),
 }
 
 impl From<AllocError> for Rejected {
     fn from(refused: AllocError) -> Rejected {
-        Rejected::Refused(Refusal::Memory(refused))
+        Rejected::Refused(QueryError::Memory(refused))
     }
 }
 
-impl From<Refusal> for Rejected {
-    fn from(refusal: Refusal) -> Rejected {
+impl From<QueryError> for Rejected {
+    fn from(refusal: QueryError) -> Rejected {
         Rejected::Refused(refusal)
     }
 }
 
 impl Rejected {
     /// Returns the refusal with its whole message. `file` is the name of the document's file, as it is displayed.
-    pub fn in_file(self, alloc: Global, file: &str) -> Refusal {
+    pub fn in_file(self, alloc: Global, file: &str) -> QueryError {
         match self {
-            Rejected::Document(reason) => unusable(alloc, file, reason.as_str()),
+            Rejected::Document(reason) => file_error(alloc, file, reason.as_str()),
             Rejected::Refused(refusal) => refusal,
         }
     }

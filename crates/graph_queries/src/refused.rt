@@ -6,10 +6,10 @@ ghost use Rattle.cargo_metadata.specs.Refusals.{is_memory as is_memory_of_graph}
 
 use crate::lines::{push, shown};
 use cargo_metadata::graphs::{EdgeError, Refusal as Unlinked};
-use cargo_metadata::{Metadata, Refusal, ResolveError, Wanted};
+use cargo_metadata::{ExpectedValue, Metadata, Refusal, ResolveError};
 use cargo_platform::ParseError;
 use input_limits::{deep_at, deep_text};
-pub use key_answers::answer::unusable;
+pub use key_answers::answer::file_error;
 use key_answers::printing::refused_key;
 use serde_json::Value;
 use std::alloc::{AllocError, Global};
@@ -22,7 +22,7 @@ fn about(alloc: Global, reason: String, subject: Option<&str>) -> Result<String,
     match subject {
         Some(subject) => {
             let subject = shown(alloc, subject)?;
-            format!(in alloc; "{reason}, of {subject}")
+            format!(in alloc; "{reason} (package {subject})")
         }
         None => Ok(reason),
     }
@@ -49,7 +49,7 @@ fn subject_of<'a>(document: &'a Value, refusal: &Refusal) -> Option<&'a str> {
 /// Adds the command that prints a graph to the reason why a document without one is rejected.
 fn with_command(alloc: Global, reason: String, refusal: &Refusal) -> Result<String, AllocError> {
     match refusal {
-        Refusal::Field(wrong) if matches!(wrong.wanted, Wanted::Resolve) => {
+        Refusal::Field(wrong) if matches!(wrong.expected, ExpectedValue::Resolve) => {
             format!(in alloc; "{reason}: run `{COMMAND}` without it")
         }
         _ => Ok(reason),

@@ -8,7 +8,7 @@ use crate::requested::{current_node, names_of, reject_unknown, split_by_root};
 use cargo_features::{Build, Claim, Resolved, resolve};
 use cargo_metadata::fields::text_at;
 use declared_features::{Declarations, Described, RequestedFeatures, described_features};
-use key_answers::answer::{Refusal, unusable_words};
+use key_answers::answer::{QueryError, argument_error};
 use key_answers::printing::shown_name;
 use known_targets::{KnownTarget, TargetSet};
 use package_graphs::{Kinds, Side};
@@ -152,7 +152,7 @@ fn resolver_of(
         None | Some("edition") => resolver_by_edition(alloc, root),
         Some(_) => {
             let text = "--resolver names 1, 2, 3 or edition";
-            Err(Rejected::Refused(unusable_words(alloc, text)))
+            Err(Rejected::Refused(argument_error(alloc, text)))
         }
     }
 }
@@ -166,15 +166,15 @@ fn build_of(resolver: Resolver, kinds: Kinds, host: KnownTarget) -> Build {
 }
 
 /// Returns the host for which features are resolved. Refuses a query without a host, and `--show why`.
-fn host_of(alloc: Global, query: &GraphQuery<'_>) -> Result<KnownTarget, Refusal> {
+fn host_of(alloc: Global, query: &GraphQuery<'_>) -> Result<KnownTarget, QueryError> {
     let Some(host) = query.host else {
         let text = "features are resolved for a host: say --host NAME";
-        return Err(unusable_words(alloc, text));
+        return Err(argument_error(alloc, text));
     };
     if query.show == Show::Why {
         let text =
             "`--show why` knows no features: leave out --resolver and what is asked of features";
-        return Err(unusable_words(alloc, text));
+        return Err(argument_error(alloc, text));
     }
     Ok(host)
 }

@@ -33,7 +33,7 @@ fn licence_reason(alloc: Global, document: &Value) -> Result<Option<String>, All
         if has_strange_licence(&packages[i]) {
             let name = shown_at(alloc, &packages[i], "name")?;
             return Ok(Some(format!(in alloc;
-                "packages[{i}].license: a text or null is wanted, of {name}"
+                "packages[{i}].license: expected a string or null (package {name})"
             )?));
         }
     }

@@ -8,5 +8,5 @@ mod texts;
 
 pub use keys::{KeyError, MOST_GROUPS, deep_at, deep_text, read_key};
 pub use texts::{
-    INPUT, LIMIT, InputError, read_file, read_input, reason_of, read_text, strip_byte_order_mark,
+    INPUT, InputError, LIMIT, read_file, read_input, read_text, reason_of, strip_byte_order_mark,
 };

@@ -8,7 +8,7 @@ use std::alloc::{AllocError, Global};
 /// The exit status of a run.
 #[derive(Clone, Copy, Debug, PartialEq, Eq)]
 pub enum Status {
-    /// There is nothing to report, or the query is answered.
+    /// There is nothing to report, or the query is answer_or_error.
     Fine,
     /// There is something to report, or a key does not apply.
     Found,
@@ -93,39 +93,42 @@ impl Answer {
 
 /// The reason why a query has no answer.
 #[derive(Drop)]
-pub enum Refusal {
+pub enum QueryError {
     /// A key, a name or a fact is invalid, with this message.
     Unusable(String),
     Memory(AllocError),
 }
 
-impl From<AllocError> for Refusal {
-    fn from(refused: AllocError) -> Refusal {
-        Refusal::Memory(refused)
+impl From<AllocError> for QueryError {
+    fn from(refused: AllocError) -> QueryError {
+        QueryError::Memory(refused)
     }
 }
 
 /// Returns the refusal of invalid arguments with this message, or the refusal of memory for its line.
-pub fn unusable_words(alloc: Global, message: &str) -> Refusal {
+pub fn argument_error(alloc: Global, message: &str) -> QueryError {
     match format!(in alloc; "error: {message}\n") {
-        Ok(line) => Refusal::Unusable(line),
-        Err(refused) => Refusal::Memory(refused),
+        Ok(line) => QueryError::Unusable(line),
+        Err(refused) => QueryError::Memory(refused),
     }
 }
 
 /// Returns the refusal of a file with this reason, on a line of its own, or the refusal of memory for that line.
-pub fn unusable(alloc: Global, file: &str, reason: &str) -> Refusal {
+pub fn file_error(alloc: Global, file: &str, reason: &str) -> QueryError {
     match format!(in alloc; "{file}: error: {reason}\n") {
-        Ok(line) => Refusal::Unusable(line),
-        Err(refused) => Refusal::Memory(refused),
+        Ok(line) => QueryError::Unusable(line),
+        Err(refused) => QueryError::Memory(refused),
     }
 }
 
 /// Returns the answer, or the one that says why there is none.
-pub fn answered(alloc: Global, answer: Result<Answer, Refusal>) -> Result<Answer, AllocError> {
+pub fn answer_or_error(
+    alloc: Global,
+    answer: Result<Answer, QueryError>,
+) -> Result<Answer, AllocError> {
     match answer {
         Ok(answer) => Ok(answer),
-        Err(Refusal::Unusable(text)) => Ok(Answer::unusable(alloc, text)),
-        Err(Refusal::Memory(refused)) => Err(refused),
+        Err(QueryError::Unusable(text)) => Ok(Answer::unusable(alloc, text)),
+        Err(QueryError::Memory(refused)) => Err(refused),
     }
 }

@@ -1,10 +1,10 @@
 //! `compare`: how two keys relate to each other.
 
-use crate::answer::{Answer, Refusal, Status};
+use crate::answer::{Answer, QueryError, Status};
 use crate::comparison::json_line;
 use crate::conditions::read_key;
 use crate::printing::shown_example;
-use crate::work::{Keys, splits_within};
+use crate::work::{Keys, split_budget};
 use cargo_platform::{CfgExpr, Platform};
 use exact_answers::{
     FactConstraints, MustSelect, ONE_VALUED, PossibleTarget, exclude_platform, family_rule,
@@ -298,7 +298,7 @@ fn compared(
         assumed: rule,
     };
     let at_known = at_known_targets(alloc, keys.a, keys.b)?;
-    let splits = splits_within(alloc, keys, budget)?;
+    let splits = split_budget(alloc, keys, budget)?;
     let everywhere = found_everywhere(alloc, keys.a, keys.b, &known, splits)?;
     let mut errors = empty_note(alloc, "first", keys.a)?;
     let second = empty_note(alloc, "second", keys.b)?;
@@ -324,7 +324,7 @@ pub fn compare(
     second: &str,
     budget: u64,
     json: bool,
-) -> Result<Answer, Refusal> {
+) -> Result<Answer, QueryError> {
     let a = read_key(alloc, first)?;
     let b = read_key(alloc, second)?;
     let rule = family_rule(alloc)?;

@@ -5,21 +5,21 @@ ghost use Rattle.cargo_platform.specs.Trees.{condition_of};
 ghost use Rattle.cargo_platform.specs.Platforms.{IsConditionText};
 ghost use Rattle.input_limits.specs.Limits.{IsShallow};
 
-use crate::answer::Refusal;
+use crate::answer::QueryError;
 use crate::printing::{deep_key, refused_key};
 use cargo_platform::Platform;
 use input_limits::KeyError;
 use std::alloc::Global;
 
 /// Reads a key, which must not be nested too deeply. Fails with a message if it is invalid.
-pub fn read_key(alloc: Global, key: &str) -> Result<Platform, Refusal>
+pub fn read_key(alloc: Global, key: &str) -> Result<Platform, QueryError>
     ensures condition { IfOk result (λ p. IsConditionText key.now (condition_of p)) }
     ensures shallow { IfOk result (λ _. IsShallow key.now) }
 {
     match input_limits::read_key(alloc, key) {
         Ok(platform) => Ok(platform),
-        Err(KeyError::Deep(at)) => Err(Refusal::Unusable(deep_key(alloc, at)?)),
-        Err(KeyError::Parse(error)) => Err(Refusal::Unusable(refused_key(alloc, key, &error)?)),
-        Err(KeyError::Memory(refused)) => Err(Refusal::Memory(refused)),
+        Err(KeyError::Deep(at)) => Err(QueryError::Unusable(deep_key(alloc, at)?)),
+        Err(KeyError::Parse(error)) => Err(QueryError::Unusable(refused_key(alloc, key, &error)?)),
+        Err(KeyError::Memory(refused)) => Err(QueryError::Memory(refused)),
     }
 }

@@ -36,7 +36,7 @@ fn steps_of_split(alloc: Global, keys: &Keys<'_>) -> Result<u64, AllocError> {
 }
 
 /// Returns how many case splits fit in this number of steps.
-pub fn splits_within(alloc: Global, keys: &Keys<'_>, steps: u64) -> Result<u64, AllocError> {
+pub fn split_budget(alloc: Global, keys: &Keys<'_>, steps: u64) -> Result<u64, AllocError> {
     if steps == 0 {
         return Ok(0);
     }

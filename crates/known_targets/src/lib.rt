@@ -22,7 +22,9 @@ mod walk;
 
 pub use known::KnownTarget;
 pub use known_facts::{KnownFact, all_facts};
-pub use matching_targets::{certainly_matching, having, is_value, matching, possibly_matching};
+pub use matching_targets::{
+    certainly_matching, is_value, matching, possibly_matching, targets_with_fact,
+};
 pub use members::Targets;
 pub use open_target::OpenTarget;
 pub use partition::classes;

@@ -98,7 +98,7 @@ fn taken_at(
 }
 
 /// Returns the targets that have the fact, whatever its raw mark.
-pub fn having(c: &Cfg) -> TargetSet
+pub fn targets_with_fact(c: &Cfg) -> TargetSet
     // A target is in the set exactly if it has the fact.
     ensures { (k : ℕ) → k < COUNT → is_member result k ≡ contains (target_facts k) (pair_of (value_of c.now)) }
 {

@@ -63,7 +63,7 @@ impl Reader {
         for dropped in 0..path.len() {
             let length = path.len().saturating_sub(dropped);
             let names = path_of(self.alloc, path.get(..length).unwrap_or(&[]))?;
-            if let Some(at) = self.locations.at_path(names.as_str()) {
+            if let Some(at) = self.locations.location_of_path(names.as_str()) {
                 return Ok(Some(at));
             }
         }
@@ -162,7 +162,7 @@ impl Reader {
                 Some(Treatment::Ignored) => self.ignore(path, key)?,
                 None => {
                     let message = unknown_key(self.alloc, kind, key)?;
-                    let at = self.at_key(path, key)?;
+                    let at = self.location_of_key(path, key)?;
                     self.report_at(LintLevel::Error, at, message)?;
                 }
             }
@@ -171,7 +171,7 @@ impl Reader {
     }
 
     /// Returns the place of a key of a table, or of the table.
-    fn at_key(&self, path: &[&str], key: &str) -> Result<Option<Location>, AllocError> {
+    fn location_of_key(&self, path: &[&str], key: &str) -> Result<Option<Location>, AllocError> {
         let mut names = Vec::new(self.alloc);
         for name in path {
             names.push(*name)?;

@@ -21,7 +21,7 @@ use text_edits::{Edit, apply, unified_diff};
 use toml::Table;
 use toml_parser::ParseError;
 use toml_spans::{Span, name_at_front};
-use workspaces::{Documents, table_of};
+use workspaces::{ManifestCache, table_of};
 
 /// The options that go with `--fix`.
 #[derive(Clone, Copy, Drop)]
@@ -404,7 +404,7 @@ fn written<R: Files + AllocGlobal>(
 /// Applies fixes to the text of a file: writes it, or prints a diff, and puts what it then contains into `documents`.
 fn fix_text<R: Files + AllocGlobal>(
     rt: &R,
-    documents: &mut Documents,
+    documents: &mut ManifestCache,
     path: &str,
     before: &str,
     fixes: Fixes,
@@ -451,7 +451,7 @@ fn fix_text<R: Files + AllocGlobal>(
 /// file that can't be fixed as a whole stays as it is, which is reported.
 pub fn fix_file<R: Files + AllocGlobal>(
     rt: &R,
-    documents: &mut Documents,
+    documents: &mut ManifestCache,
     path: &str,
     fixes: Fixes,
 ) -> Result<Answer, AllocError> {

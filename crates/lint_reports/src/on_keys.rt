@@ -34,9 +34,9 @@ fn whole_key(
         start: 0,
         end: key.len(),
     };
-    match locations.located_part(alloc, key, whole)? {
+    match locations.location_of_part(alloc, key, whole)? {
         Some(at) => Ok(Some(at)),
-        None => locations.located_key(alloc, key),
+        None => locations.location_in_key(alloc, key),
     }
 }
 
@@ -49,7 +49,7 @@ fn add_parts(
     found: &mut Vec<Location>,
 ) -> Result<(), AllocError> {
     for part in parts {
-        if let Some(at) = locations.located_part(alloc, key, *part)? {
+        if let Some(at) = locations.location_of_part(alloc, key, *part)? {
             found.push(at)?;
         }
     }
@@ -65,7 +65,7 @@ fn add_fields(
     found: &mut Vec<Location>,
 ) -> Result<(), AllocError> {
     for field in fields {
-        if let Some(at) = locations.at_field(alloc, key, field.as_str())? {
+        if let Some(at) = locations.location_of_field(alloc, key, field.as_str())? {
             found.push(at)?;
         }
     }
@@ -163,7 +163,7 @@ fn key_at(
     key: &Option<String>,
 ) -> Result<Option<Location>, AllocError> {
     match key {
-        Some(key) => locations.located_key(alloc, key.as_str()),
+        Some(key) => locations.location_in_key(alloc, key.as_str()),
         None => Ok(None),
     }
 }
@@ -176,7 +176,7 @@ fn key_again(
     is_suggested: bool,
 ) -> Result<Vec<Location>, AllocError> {
     match key {
-        Some(key) if is_suggested => locations.again_at_key(alloc, key.as_str()),
+        Some(key) if is_suggested => locations.later_locations_of_key(alloc, key.as_str()),
         _ => Ok(Vec::new(alloc)),
     }
 }
@@ -234,9 +234,9 @@ fn place_of_site(
     site: &Site,
 ) -> Result<Option<Location>, AllocError> {
     match site {
-        Site::Named(path) => Ok(locations.at_path(path.as_str())),
-        Site::Field(key, field) => locations.at_field(alloc, key.as_str(), field.as_str()),
-        Site::InKey(Some(part)) => locations.located_part(alloc, key, *part),
+        Site::Named(path) => Ok(locations.location_of_path(path.as_str())),
+        Site::Field(key, field) => locations.location_of_field(alloc, key.as_str(), field.as_str()),
+        Site::InKey(Some(part)) => locations.location_of_part(alloc, key, *part),
         Site::InKey(None) => Ok(None),
     }
 }
@@ -268,10 +268,10 @@ fn site_again(
     site: &Site,
 ) -> Result<Vec<Location>, AllocError> {
     match site {
-        Site::Named(path) => locations.again_at_path(alloc, path.as_str()),
+        Site::Named(path) => locations.later_locations_of_path(alloc, path.as_str()),
         Site::Field(key, field) => {
             let path = locations.path_of_field(alloc, key.as_str(), field.as_str())?;
-            locations.again_at_path(alloc, path.as_str())
+            locations.later_locations_of_path(alloc, path.as_str())
         }
         Site::InKey(_) => Ok(Vec::new(alloc)),
     }

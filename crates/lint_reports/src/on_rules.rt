@@ -162,7 +162,7 @@ fn at_table(
     part: &str,
 ) -> Result<Option<Location>, AllocError> {
     let path = path_of(alloc, &[part, METADATA, TOOL])?;
-    Ok(locations.at_path(path.as_str()))
+    Ok(locations.location_of_path(path.as_str()))
 }
 
 /// Returns the place of an entry of the rules in a part of a manifest, or else of the field, or else of the table.
@@ -174,11 +174,11 @@ fn place_in(
     entry: Option<usize>,
 ) -> Result<Option<Location>, AllocError> {
     let path = path_in(alloc, part, field, entry)?;
-    if let Some(at) = locations.at_path(path.as_str()) {
+    if let Some(at) = locations.location_of_path(path.as_str()) {
         return Ok(Some(at));
     }
     let path = path_in(alloc, part, field, None)?;
-    if let Some(at) = locations.at_path(path.as_str()) {
+    if let Some(at) = locations.location_of_path(path.as_str()) {
         return Ok(Some(at));
     }
     at_table(alloc, locations, part)
@@ -224,7 +224,7 @@ pub fn diagnostic_of_fault(
     let at = match it.fault {
         Fault::Underscored => {
             let path = path_of(alloc, &[part, METADATA, UNDERSCORED_TOOL])?;
-            locations.at_path(path.as_str())
+            locations.location_of_path(path.as_str())
         }
         _ => place_in(alloc, locations, part, it.field.as_str(), it.entry)?,
     };
@@ -244,7 +244,7 @@ pub fn diagnostic_of_unneeded(
         children: Children::of_help(alloc, String::from_str(alloc, "remove this entry")?)?,
     };
     let path = path_in(alloc, part, rule.setting.word(), rule.entry)?;
-    let entry = locations.at_path(path.as_str());
+    let entry = locations.location_of_path(path.as_str());
     let at = place_in(alloc, locations, part, rule.setting.word(), rule.entry)?;
     let mut diagnostic = on_rules(alloc, Lint::UnneededAllow, part, wrong, at)?;
     if rule.key.is_none() && rule.entry.is_some() && entry.is_some() {

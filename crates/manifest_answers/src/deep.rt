@@ -59,7 +59,7 @@ fn deep_key(
     at: usize,
 ) -> Result<DeepKey, AllocError> {
     let path = manifest.path.as_str();
-    let place = match manifest.document.locations.at_key(key) {
+    let place = match manifest.document.locations.location_of_key(key) {
         Some(at) => {
             let line = at.line;
             format!(in alloc; "{path}:{line}")?

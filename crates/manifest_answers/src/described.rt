@@ -69,7 +69,7 @@ fn features_of<'d>(alloc: Global, declared: Option<&'d Value>) -> Result<Vec<&'d
 
 /// Returns the number of the line on which a key of `target` occurs first.
 pub fn first_line(document: &Document, key: &str) -> Option<usize> {
-    let at = document.locations.at_key(key)?;
+    let at = document.locations.location_of_key(key)?;
     Some(at.line)
 }
 

@@ -119,7 +119,11 @@ impl<'a> ErrorReporter<'a> {
     }
 
     /// Returns the answer that reports inputs that can't be used, in their order.
-    pub fn report_each(&self, alloc: Global, unusable: &[InputError]) -> Result<Answer, AllocError> {
+    pub fn report_each(
+        &self,
+        alloc: Global,
+        unusable: &[InputError],
+    ) -> Result<Answer, AllocError> {
         let mut whole = Answer::of(alloc, String::new(alloc), Status::Fine);
         for it in unusable {
             whole.append(self.report_unusable(alloc, it)?)?;

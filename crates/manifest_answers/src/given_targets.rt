@@ -4,9 +4,9 @@ use crate::questions::{copied, facts_of_lines};
 use cargo_platform::{Cfg, CfgExpr, Platform};
 use exact_answers::{CanSelect, FactConstraints, MustSelect, always_platform, can_hold_platform};
 use input_limits::strip_byte_order_mark;
-use key_answers::answer::Refusal;
+use key_answers::answer::QueryError;
 use key_answers::printing::{refused_fact, shown_name};
-use known_targets::{COUNT, KnownTarget, RUSTC_VERSION, TargetSet, having};
+use known_targets::{COUNT, KnownTarget, RUSTC_VERSION, TargetSet, targets_with_fact};
 use manifest_lints_findings::near;
 use manifests::TargetFacts;
 use partial_facts::{decide_platform, residual_platform};
@@ -64,7 +64,7 @@ fn lines_of(alloc: Global, text: &str) -> Result<String, AllocError> {
 }
 
 /// Returns the message for a file that is not a table of targets.
-fn refused_file(alloc: Global, file: &str, error: &TableError) -> Result<Refusal, AllocError> {
+fn refused_file(alloc: Global, file: &str, error: &TableError) -> Result<QueryError, AllocError> {
     let line = match error {
         TableError::Line { number, error } => {
             let message = refused_fact(alloc, *number, error)?;
@@ -76,7 +76,7 @@ fn refused_file(alloc: Global, file: &str, error: &TableError) -> Result<Refusal
         }
         TableError::Memory(_) => return Err(AllocError),
     };
-    Ok(Refusal::Unusable(line))
+    Ok(QueryError::Unusable(line))
 }
 
 /// Returns the number of targets in the lines of a file. Each begins after an empty line, or at the beginning.
@@ -93,13 +93,13 @@ fn count_in(lines: &str) -> usize {
 }
 
 /// Returns the message for a file with no target, or with too many.
-fn refused_count(alloc: Global, file: &str, count: usize) -> Result<Refusal, AllocError> {
+fn refused_count(alloc: Global, file: &str, count: usize) -> Result<QueryError, AllocError> {
     let line = if count == 0 {
         format!(in alloc; "{file}: error: it has no targets\n")?
     } else {
         format!(in alloc; "{file}: error: it has {count} targets, and {MOST} are the most\n")?
     };
-    Ok(Refusal::Unusable(line))
+    Ok(QueryError::Unusable(line))
 }
 
 /// Returns the table of the known targets, followed by these rows.
@@ -114,7 +114,7 @@ fn behind_known(alloc: Global, own: &TargetTable) -> Result<TargetTable, AllocEr
 
 impl GivenTargets {
     /// Parses the targets in the text of a file: at least one, and at most 10,000.
-    pub fn of(alloc: Global, file: String, text: &str) -> Result<GivenTargets, Refusal> {
+    pub fn of(alloc: Global, file: String, text: &str) -> Result<GivenTargets, QueryError> {
         let lines = lines_of(alloc, text)?;
         let count = count_in(lines.as_str());
         if count == 0 || count > MOST {
@@ -158,18 +158,18 @@ impl GivenTargets {
 
     /// Adds the target of this name with the facts in a text, one on each line. Fails with a message if there is
     /// already a target of this name, if a line is not a fact, if there is no fact, and if there are too many targets.
-    pub fn add(&mut self, alloc: Global, name: &str, text: &str) -> Result<(), Refusal> {
+    pub fn add(&mut self, alloc: Global, name: &str, text: &str) -> Result<(), QueryError> {
         let facts = facts_of_lines(alloc, text)?;
         if facts.is_empty() {
             let line = String::from_str(alloc, "error: the file has no facts\n")?;
-            return Err(Refusal::Unusable(line));
+            return Err(QueryError::Unusable(line));
         }
         if self.count() >= MOST {
             let file = self.file.as_str();
             let line = format!(in alloc;
                 "error: {file} has {MOST} targets, and no more are allowed\n"
             )?;
-            return Err(Refusal::Unusable(line));
+            return Err(QueryError::Unusable(line));
         }
         if !self.is_known(name) && self.own.add(alloc, name, facts)? {
             self.listed = OnceCell::new();
@@ -177,7 +177,7 @@ impl GivenTargets {
         }
         let file = self.file.as_str();
         let line = format!(in alloc; "error: {file} has a target of this name\n")?;
-        Err(Refusal::Unusable(line))
+        Err(QueryError::Unusable(line))
     }
 
     /// Returns the targets: the known ones, if they are among them, and then those of the file. Fails only if an
@@ -234,13 +234,13 @@ impl GivenTargets {
     }
 
     /// Returns the target of this name. Fails with a message if there is none.
-    pub fn named(&self, alloc: Global, name: &str) -> Result<&TargetRow, Refusal> {
+    pub fn named(&self, alloc: Global, name: &str) -> Result<&TargetRow, QueryError> {
         match self.by_name(alloc, name)? {
             Some(row) => Ok(row),
             None => {
                 let message = self.unknown(alloc, name)?;
                 let line = format!(in alloc; "error: {message}\n")?;
-                Err(Refusal::Unusable(line))
+                Err(QueryError::Unusable(line))
             }
         }
     }
@@ -311,7 +311,7 @@ impl GivenTargets {
 
     /// Returns whether one of the targets has the fact.
     pub fn has(&self, fact: &Cfg) -> bool {
-        if self.has_known && !having(fact).is_empty() {
+        if self.has_known && !targets_with_fact(fact).is_empty() {
             return true;
         }
         let mut rows = self.own.rows().iter();
@@ -324,7 +324,7 @@ impl GivenTargets {
         let mut texts = Vec::new(alloc);
         for row in self.own.rows() {
             for fact in row.facts() {
-                if seen.insert(fact)? && having(fact).is_empty() {
+                if seen.insert(fact)? && targets_with_fact(fact).is_empty() {
                     texts.push(fact.to_string(alloc)?)?;
                 }
             }

@@ -10,7 +10,7 @@ use manifests::reading::{Manifest, ManifestText, ReadError};
 use std::alloc::{AllocError, Global};
 use std::rt::{Env, Files};
 use toml::Table;
-use workspaces::{Document, Documents, inherits, put_inherited, root_of};
+use workspaces::{Document, ManifestCache, inherits, put_inherited, root_of};
 
 /// Returns the manifest that a document is, with the lines of its keys where they are asked for, or a key is too deep.
 fn manifest_of(
@@ -33,7 +33,7 @@ fn manifest_of(
 /// Returns the text of the manifest that is named: the one that the documents use for it, or else that of the file.
 fn text_of<R: Files + Input + AllocGlobal>(
     rt: &R,
-    documents: &Documents,
+    documents: &ManifestCache,
     path: &str,
 ) -> Result<ManifestText, ReadError> {
     let Some(text) = documents.given_text(rt, path)? else {
@@ -46,7 +46,7 @@ fn text_of<R: Files + Input + AllocGlobal>(
 /// Reads and parses the manifest that is named.
 fn document_read<R: Files + Input + AllocGlobal>(
     rt: &R,
-    documents: &Documents,
+    documents: &ManifestCache,
     path: &str,
 ) -> Result<Document, ReadError> {
     let text = text_of(rt, documents, path)?;
@@ -59,7 +59,7 @@ fn document_read<R: Files + Input + AllocGlobal>(
 /// read.
 fn document_at<R: Files + Input + AllocGlobal>(
     rt: &R,
-    documents: &mut Documents,
+    documents: &mut ManifestCache,
     path: &str,
 ) -> Result<Document, ReadError> {
     match documents.take(rt, path)? {
@@ -74,7 +74,7 @@ fn document_at<R: Files + Input + AllocGlobal>(
 /// Fails if it can't be used.
 pub fn manifest_at<R: Files + Input + AllocGlobal>(
     rt: &R,
-    documents: &mut Documents,
+    documents: &mut ManifestCache,
     path: &str,
     with_lines: bool,
 ) -> Result<Manifest, ReadError> {
@@ -111,7 +111,7 @@ fn inherit_from(
 /// input is in no workspace that is known.
 fn inherit<R: Files + Env + AllocGlobal>(
     rt: &R,
-    documents: &mut Documents,
+    documents: &mut ManifestCache,
     path: &str,
     document: &mut Document,
 ) -> Result<Option<Rejected>, AllocError> {
@@ -136,7 +136,7 @@ fn inherit<R: Files + Env + AllocGlobal>(
 /// Fails if it can't be used.
 pub fn read_normalized<R: Files + Input + Env + AllocGlobal>(
     rt: &R,
-    documents: &mut Documents,
+    documents: &mut ManifestCache,
     path: &str,
     with_lines: bool,
 ) -> Result<NormalizedManifest, ReadError> {

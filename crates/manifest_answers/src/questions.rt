@@ -9,12 +9,12 @@ use cargo_platform::{
     Cfg, FactIndex, FactsError, Platform, ReadError, read_facts, shown_start, values_of,
 };
 use input_limits::strip_byte_order_mark;
-use key_answers::answer::{Answer, Refusal, Status};
+use key_answers::answer::{Answer, QueryError, Status};
 use key_answers::conditions::read_key;
 use key_answers::json_lines;
 use key_answers::printing::{fact_lines, refused_cfg, refused_fact, shown_name};
 use key_answers::targets::names_of;
-use known_targets::{COUNT, KnownTarget, RUSTC_VERSION, TargetSet, having, matching};
+use known_targets::{COUNT, KnownTarget, RUSTC_VERSION, TargetSet, matching, targets_with_fact};
 use manifest_lints_findings::{Code, Finding, KnownFacts, lint_condition, nearest_target};
 use serde::Serialize;
 use std::alloc::{AllocError, Global};
@@ -98,7 +98,7 @@ fn unknown_lines(
 
 /// Returns the warnings for names and values in a key that rustc sets on no known target, and for an unknown target
 /// name, each with its helps and notes. There is none for what only `--cfg` sets, or for an empty key.
-pub fn unknown_words(alloc: Global, key: &str) -> Result<String, Refusal> {
+pub fn unknown_words(alloc: Global, key: &str) -> Result<String, QueryError> {
     if key.is_empty() {
         return Ok(String::new(alloc));
     }
@@ -113,7 +113,7 @@ fn asks_for_new(
     given: &GivenTargets,
 ) -> Result<bool, AllocError> {
     for fact in &values_of(alloc, condition)? {
-        if having(fact).is_empty() && given.has(fact) {
+        if targets_with_fact(fact).is_empty() && given.has(fact) {
             return Ok(true);
         }
     }
@@ -154,7 +154,7 @@ pub fn facts(alloc: Global, name: &str) -> Result<Answer, AllocError> {
 }
 
 /// Returns the facts of the target with this name in a file.
-pub fn facts_in(alloc: Global, name: &str, given: &GivenTargets) -> Result<Answer, Refusal> {
+pub fn facts_in(alloc: Global, name: &str, given: &GivenTargets) -> Result<Answer, QueryError> {
     let row = given.named(alloc, name)?;
     let text = fact_lines(alloc, row.facts())?;
     Ok(Answer::of(alloc, text, Status::Fine))
@@ -201,8 +201,8 @@ fn within_cfg(alloc: Global, name: &str) -> Result<Option<String>, AllocError> {
             let targets = matching(alloc, &condition)?;
             Ok(if targets.is_empty() { None } else { Some(key) })
         }
-        Err(Refusal::Memory(refused)) => Err(refused),
-        Err(Refusal::Unusable(_)) => Ok(None),
+        Err(QueryError::Memory(refused)) => Err(refused),
+        Err(QueryError::Unusable(_)) => Ok(None),
     }
 }
 
@@ -249,7 +249,7 @@ fn counted(alloc: Global, condition: &Platform, targets: TargetSet) -> Result<St
 }
 
 /// Returns the known targets on which the key is true.
-pub fn targets(alloc: Global, key: &str, json: bool) -> Result<Answer, Refusal> {
+pub fn targets(alloc: Global, key: &str, json: bool) -> Result<Answer, QueryError> {
     let condition = read_key(alloc, key)?;
     let targets = matching(alloc, &condition)?;
     let errors = counted(alloc, &condition, targets)?;
@@ -283,7 +283,7 @@ pub fn targets_in(
     key: &str,
     given: &GivenTargets,
     json: bool,
-) -> Result<Answer, Refusal> {
+) -> Result<Answer, QueryError> {
     let condition = read_key(alloc, key)?;
     let names = given.matching(alloc, &condition)?;
     let errors = counted_in(alloc, &condition, names.len(), given)?;
@@ -320,13 +320,13 @@ fn line_of_fact(text: &str, facts: usize) -> usize {
 }
 
 /// Parses the facts in the lines of a file.
-pub fn facts_of_lines(alloc: Global, text: &str) -> Result<Vec<Cfg>, Refusal> {
+pub fn facts_of_lines(alloc: Global, text: &str) -> Result<Vec<Cfg>, QueryError> {
     match read_facts(alloc, fact_lines_of(alloc, text)?.as_str()) {
         Ok(facts) => Ok(facts),
-        Err(FactsError::Memory(refused)) => Err(Refusal::Memory(refused)),
+        Err(FactsError::Memory(refused)) => Err(QueryError::Memory(refused)),
         Err(FactsError::Line { number, error }) => {
             let line = line_of_fact(text, number);
-            Err(Refusal::Unusable(refused_fact(alloc, line, &error)?))
+            Err(QueryError::Unusable(refused_fact(alloc, line, &error)?))
         }
     }
 }
@@ -341,7 +341,7 @@ pub fn copied(alloc: Global, facts: &[Cfg]) -> Result<Vec<Cfg>, AllocError> {
 }
 
 /// Returns the facts of the target of this name.
-pub fn facts_from(alloc: Global, name: &str, from: FactsFrom<'_>) -> Result<Vec<Cfg>, Refusal> {
+pub fn facts_from(alloc: Global, name: &str, from: FactsFrom<'_>) -> Result<Vec<Cfg>, QueryError> {
     match from {
         FactsFrom::Lines(text) => facts_of_lines(alloc, text),
         FactsFrom::File(given) => {
@@ -350,22 +350,22 @@ pub fn facts_from(alloc: Global, name: &str, from: FactsFrom<'_>) -> Result<Vec<
         }
         FactsFrom::Known => match KnownTarget::by_name(name) {
             Some(target) => Ok(target.facts(alloc)?),
-            None => Err(Refusal::Unusable(without_facts(alloc, name)?)),
+            None => Err(QueryError::Unusable(without_facts(alloc, name)?)),
         },
     }
 }
 
 /// Parses the fact of an argument.
-fn added_fact(alloc: Global, text: &str) -> Result<Cfg, Refusal> {
+fn added_fact(alloc: Global, text: &str) -> Result<Cfg, QueryError> {
     match Cfg::from_str(alloc, text) {
         Ok(fact) => Ok(fact),
-        Err(ReadError::Memory(refused)) => Err(Refusal::Memory(refused)),
-        Err(ReadError::Parse(error)) => Err(Refusal::Unusable(refused_cfg(alloc, &error)?)),
+        Err(ReadError::Memory(refused)) => Err(QueryError::Memory(refused)),
+        Err(ReadError::Parse(error)) => Err(QueryError::Unusable(refused_cfg(alloc, &error)?)),
     }
 }
 
 /// Parses the facts of arguments.
-pub fn added_facts(alloc: Global, texts: &[&str]) -> Result<Vec<Cfg>, Refusal> {
+pub fn added_facts(alloc: Global, texts: &[&str]) -> Result<Vec<Cfg>, QueryError> {
     let mut facts = Vec::new(alloc);
     for text in texts {
         let fact = added_fact(alloc, text)?;
@@ -394,7 +394,7 @@ fn all_facts(
     name: &str,
     from: FactsFrom<'_>,
     added: &[&str],
-) -> Result<Vec<Cfg>, Refusal> {
+) -> Result<Vec<Cfg>, QueryError> {
     let mut facts = facts_from(alloc, name, from)?;
     for fact in added_facts(alloc, added)? {
         facts.push(fact).map_err(AllocError::from)?;
@@ -423,7 +423,7 @@ fn holds_on(
     name: &str,
     from: FactsFrom<'_>,
     added: &[&str],
-) -> Result<bool, Refusal> {
+) -> Result<bool, QueryError> {
     let facts = all_facts(alloc, name, from, added)?;
     Ok(holds(alloc, condition, name, &facts)?)
 }
@@ -450,7 +450,7 @@ fn verdicts(
     names: &[String],
     from: FactsFrom<'_>,
     added: &[&str],
-) -> Result<Answer, Refusal> {
+) -> Result<Answer, QueryError> {
     let mut answer = Answer::of(alloc, String::new(alloc), Status::Fine);
     for name in names {
         let name = name.as_str();
@@ -472,7 +472,7 @@ pub fn applies_to_each(
     names: &[String],
     from: FactsFrom<'_>,
     added: &[&str],
-) -> Result<Answer, Refusal> {
+) -> Result<Answer, QueryError> {
     let condition = read_key(alloc, key)?;
     let mut answer = verdicts(alloc, &condition, names, from, added)?;
     let errors = unknown_beside(alloc, key, condition, from, !added.is_empty())?;
@@ -487,7 +487,7 @@ pub fn applies(
     name: &str,
     from: FactsFrom<'_>,
     added: &[&str],
-) -> Result<bool, Refusal> {
+) -> Result<bool, QueryError> {
     let condition = read_key(alloc, key)?;
     holds_on(alloc, &condition, name, from, added)
 }

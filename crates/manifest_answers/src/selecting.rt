@@ -2,39 +2,42 @@
 
 use crate::cargo_refuses::Rejected;
 use crate::described::{Described, first_line};
+use crate::each_manifest::{ManifestQuery, answer_each};
 use crate::faults::{ErrorReporter, Fault, span_of};
 use crate::given_targets::FactsFrom;
-use crate::in_turn::{Question, answer_each};
 use crate::opened::OpenNames;
 use crate::questions::{added_facts, facts_from, unknown_name};
 use cargo_platform::{Cfg, ParseError, shown_start};
-use key_answers::answer::{Answer, Refusal, Status};
+use key_answers::answer::{Answer, QueryError, Status};
 use key_answers::json_lines;
 use key_answers::printing::{key_reason, refused_key};
 use known_targets::KnownTarget;
 use manifest_lints_findings::shown_table;
 use manifests::reading::Manifest;
-use manifests::{Choice, Dependency, Kind, Row, SelectError, TargetFacts, choose, select};
+use manifests::{
+    Decision, Dependency, DependencyDecision, Kind, SelectError, TargetFacts, decide_condition,
+    select,
+};
 use serde::Serialize;
 use std::alloc::{AllocError, Global};
 use std::rt::{Env, Files};
 use target_tables::TargetRow;
-use workspaces::Documents;
+use workspaces::ManifestCache;
 
-/// Returns the word for a choice.
-fn choice_word(choice: &Choice) -> &'static str {
-    match choice {
-        Choice::Selected => "selected",
-        Choice::LeftOut => "left out",
-        Choice::Open(_) => "open",
+/// Returns the word for a decision.
+fn choice_word(decision: &Decision) -> &'static str {
+    match decision {
+        Decision::Selected => "selected",
+        Decision::LeftOut => "left out",
+        Decision::Open(_) => "open",
     }
 }
 
 /// Returns the condition that remains to be decided, as a key.
-fn residual(alloc: Global, choice: &Choice) -> Result<Option<String>, AllocError> {
-    match choice {
-        Choice::Open(condition) => Ok(Some(condition.to_string(alloc)?)),
-        Choice::Selected | Choice::LeftOut => Ok(None),
+fn residual(alloc: Global, decision: &Decision) -> Result<Option<String>, AllocError> {
+    match decision {
+        Decision::Open(condition) => Ok(Some(condition.to_string(alloc)?)),
+        Decision::Selected | Decision::LeftOut => Ok(None),
     }
 }
 
@@ -91,9 +94,9 @@ fn push_shown(text: &mut String, alloc: Global, name: &str) -> Result<(), AllocE
     text.push_str(shown_start(alloc, name)?.as_str())
 }
 
-/// Appends the condition that remains to be decided, as it is printed after the word for the choice.
-fn push_residual(text: &mut String, alloc: Global, choice: &Choice) -> Result<(), AllocError> {
-    if let Some(key) = residual(alloc, choice)? {
+/// Appends the condition that remains to be decided, as it is printed after the word for the decision.
+fn push_residual(text: &mut String, alloc: Global, decision: &Decision) -> Result<(), AllocError> {
+    if let Some(key) = residual(alloc, decision)? {
         text.push_str(" where ")?;
         text.push_str(shown_start(alloc, key.as_str())?.as_str())?;
     }
@@ -123,7 +126,7 @@ fn push_line(
     alloc: Global,
     on: LinesOn<'_>,
     table: &str,
-    row: &Row<'_>,
+    row: &DependencyDecision<'_>,
 ) -> Result<(), AllocError> {
     text.push_str(on.path)?;
     text.push_str(": ")?;
@@ -136,8 +139,8 @@ fn push_line(
     text.push_str(")")?;
     push_target(text, alloc, on)?;
     text.push_str(": ")?;
-    text.push_str(choice_word(&row.choice))?;
-    push_residual(text, alloc, &row.choice)?;
+    text.push_str(choice_word(&row.decision))?;
+    push_residual(text, alloc, &row.decision)?;
     text.push_str("\n")
 }
 
@@ -146,7 +149,7 @@ fn push_lines(
     text: &mut String,
     alloc: Global,
     on: LinesOn<'_>,
-    rows: &[Row<'_>],
+    rows: &[DependencyDecision<'_>],
 ) -> Result<(), AllocError> {
     let Some(first) = rows.first() else {
         return Ok(());
@@ -165,7 +168,7 @@ fn push_lines(
 #[derive(Drop, Serialize)]
 struct SelectedDependency<'a> {
     /// One of `selected`, `left out` and `open`.
-    choice: &'static str,
+    decision: &'static str,
     /// The name in the table.
     dependency: &'a str,
     features: Vec<&'a str>,
@@ -196,12 +199,12 @@ fn push_object<'a>(
     alloc: Global,
     manifest: &'a Manifest,
     target: &'a str,
-    row: &'a Row<'a>,
+    row: &'a DependencyDecision<'a>,
 ) -> Result<(), AllocError> {
     let dependency = &row.dependency;
     let described = Described::of(alloc, &manifest.document, dependency)?;
     let line = SelectedDependency {
-        choice: choice_word(&row.choice),
+        decision: choice_word(&row.decision),
         dependency: dependency.name,
         features: described.features,
         key: dependency.key,
@@ -209,7 +212,7 @@ fn push_object<'a>(
         manifest: manifest.path.as_str(),
         optional: dependency.optional,
         package: described.package.unwrap_or(dependency.name),
-        residual: residual(alloc, &row.choice)?,
+        residual: residual(alloc, &row.decision)?,
         source: described.source,
         table: dependency.kind.table_name(),
         target,
@@ -334,7 +337,7 @@ fn push_rows(
     text: &mut String,
     alloc: Global,
     on: RowsOn<'_>,
-    rows: &[Row<'_>],
+    rows: &[DependencyDecision<'_>],
 ) -> Result<(), AllocError> {
     if on.errors.json {
         for row in rows {
@@ -379,7 +382,7 @@ impl<'a> Selecting<'a> {
         alloc: Global,
         manifest: &'m Manifest,
         target: &KnownOf,
-    ) -> Result<Vec<Row<'m>>, SelectError<'m>> {
+    ) -> Result<Vec<DependencyDecision<'m>>, SelectError<'m>> {
         let known = TargetFacts {
             facts: &target.facts,
             added: &target.added,
@@ -396,7 +399,7 @@ impl<'a> Selecting<'a> {
     }
 }
 
-impl<'a> Question for Selecting<'a> {
+impl<'a> ManifestQuery for Selecting<'a> {
     fn asks_for_lines(&self) -> bool {
         self.errors.json
     }
@@ -475,7 +478,7 @@ enum Host<'a> {
 
 impl<'a> Host<'a> {
     /// Returns the host of this name.
-    fn of(alloc: Global, name: Option<&str>, from: FactsFrom<'a>) -> Result<Host<'a>, Refusal> {
+    fn of(alloc: Global, name: Option<&str>, from: FactsFrom<'a>) -> Result<Host<'a>, QueryError> {
         let Some(name) = name else {
             return Ok(Host::Open);
         };
@@ -484,7 +487,7 @@ impl<'a> Host<'a> {
         }
         match KnownTarget::by_name(name) {
             Some(host) => Ok(Host::Known(host)),
-            None => Err(Refusal::Unusable(unknown_name(alloc, name)?)),
+            None => Err(QueryError::Unusable(unknown_name(alloc, name)?)),
         }
     }
 
@@ -497,7 +500,7 @@ impl<'a> Host<'a> {
     }
 
     /// Decides the build-dependencies that are open by the target of a file.
-    fn decide(self, alloc: Global, rows: &mut [Row<'_>]) -> Result<(), AllocError> {
+    fn decide(self, alloc: Global, rows: &mut [DependencyDecision<'_>]) -> Result<(), AllocError> {
         let Host::OfFile(host) = self else {
             return Ok(());
         };
@@ -510,8 +513,8 @@ impl<'a> Host<'a> {
             if row.dependency.kind != Kind::Build {
                 continue;
             }
-            if let Choice::Open(condition) = &row.choice {
-                row.choice = choose(alloc, condition, host.name(), &known)?;
+            if let Decision::Open(condition) = &row.decision {
+                row.decision = decide_condition(alloc, condition, host.name(), &known)?;
             }
         }
         Ok(())
@@ -529,7 +532,7 @@ fn add_unused_names(
 }
 
 /// Returns the facts that are known of a target.
-fn known_of(alloc: Global, target: &Target, from: FactsFrom<'_>) -> Result<KnownOf, Refusal> {
+fn known_of(alloc: Global, target: &Target, from: FactsFrom<'_>) -> Result<KnownOf, QueryError> {
     let name = target.name.as_str();
     let facts = facts_from(alloc, name, from)?;
     let texts: Vec<&str> = target
@@ -550,7 +553,7 @@ fn known_of_each(
     alloc: Global,
     targets: &[Target],
     from: FactsFrom<'_>,
-) -> Result<Vec<KnownOf>, Refusal> {
+) -> Result<Vec<KnownOf>, QueryError> {
     let mut known = Vec::new(alloc);
     for target in targets {
         let it = known_of(alloc, target, from)?;
@@ -563,11 +566,11 @@ fn known_of_each(
 /// the host have. Those of the documents are not read again. Manifests of more bytes than their limit are rejected.
 pub fn select_each<R: Files + Input + Env + AllocGlobal>(
     rt: &R,
-    documents: &mut Documents,
+    documents: &mut ManifestCache,
     paths: &[&str],
     targets: &[Target],
     selection: &Selection<'_>,
-) -> Result<Answer, Refusal> {
+) -> Result<Answer, QueryError> {
     let alloc = rt.alloc();
     let targets = known_of_each(alloc, targets, selection.facts_from)?;
     let host = Host::of(alloc, selection.host, selection.facts_from)?;

@@ -13,7 +13,7 @@ use crate::target_specs::with_custom_targets;
 use cargo_platform::shown_text;
 use clap::ArgMatches;
 use input_limits::{INPUT, InputError};
-use key_answers::answer::{Answer, Refusal, Status, answered};
+use key_answers::answer::{Answer, QueryError, Status, answer_or_error};
 use key_answers::comparing::compare;
 use lint_fixes::FixOptions;
 use manifest_answers::faults::ErrorReporter;
@@ -22,7 +22,7 @@ use manifest_answers::questions;
 use manifest_answers::selecting::{Selection, select_each};
 use std::alloc::{AllocError, Global};
 use std::rt::{Env, Files};
-use workspaces::Documents;
+use workspaces::ManifestCache;
 
 /// Returns the value of a required argument.
 fn word<'a>(matches: &ArgMatches<'a>, id: &str) -> &'a str {
@@ -33,7 +33,7 @@ fn word<'a>(matches: &ArgMatches<'a>, id: &str) -> &'a str {
 fn facts_file<R: Files + Input + AllocGlobal>(
     rt: &R,
     matches: &ArgMatches<'_>,
-) -> Result<Option<String>, Refusal> {
+) -> Result<Option<String>, QueryError> {
     match matches.get_str("facts") {
         Some(path) => Ok(Some(text_of(rt, path, limit_of(matches))?)),
         None => Ok(None),
@@ -44,7 +44,7 @@ fn facts_file<R: Files + Input + AllocGlobal>(
 fn targets_of_file<R: Files + Input + AllocGlobal>(
     rt: &R,
     matches: &ArgMatches<'_>,
-) -> Result<Option<GivenTargets>, Refusal> {
+) -> Result<Option<GivenTargets>, QueryError> {
     let Some(path) = matches.get_str("facts-of") else {
         return Ok(None);
     };
@@ -58,7 +58,7 @@ fn targets_of_file<R: Files + Input + AllocGlobal>(
 pub fn given_targets<R: Files + Input + AllocGlobal>(
     rt: &R,
     matches: &ArgMatches<'_>,
-) -> Result<Option<GivenTargets>, Refusal> {
+) -> Result<Option<GivenTargets>, QueryError> {
     let given = targets_of_file(rt, matches)?;
     let values = matches.get_strs("target-spec").unwrap_or(&[]);
     with_custom_targets(rt, given, values, limit_of(matches))
@@ -77,7 +77,7 @@ fn facts_from<'a>(lines: &'a Option<String>, given: &'a Option<GivenTargets>) ->
 fn match_answer<R: Files + Input + AllocGlobal>(
     rt: &R,
     matches: &ArgMatches<'_>,
-) -> Result<Answer, Refusal> {
+) -> Result<Answer, QueryError> {
     let lines = facts_file(rt, matches)?;
     let given = given_targets(rt, matches)?;
     let from = facts_from(&lines, &given);
@@ -106,7 +106,7 @@ fn selected_by<R: Files + Input + Env + AllocGlobal + Clone + Drop>(
     matches: &ArgMatches<'_>,
     from: FactsFrom<'_>,
     flagged: &TargetsWithFlags,
-) -> Result<Answer, Refusal> {
+) -> Result<Answer, QueryError> {
     let alloc = rt.alloc();
     let errors = selection_errors(matches);
     let selection = Selection {
@@ -115,7 +115,7 @@ fn selected_by<R: Files + Input + Env + AllocGlobal + Clone + Drop>(
         facts_from: from,
         host: matches.get_str("host"),
     };
-    let mut documents = Documents::new(alloc, limit_of(matches));
+    let mut documents = ManifestCache::new(alloc, limit_of(matches));
     let SelectedManifests {
         paths,
         unusable,
@@ -134,7 +134,7 @@ fn selected_by<R: Files + Input + Env + AllocGlobal + Clone + Drop>(
 fn select_answer<R: Files + Input + Env + AllocGlobal + Clone + Drop>(
     rt: &R,
     matches: &ArgMatches<'_>,
-) -> Result<Answer, Refusal> {
+) -> Result<Answer, QueryError> {
     let lines = facts_file(rt, matches)?;
     let given = given_targets(rt, matches)?;
     let from = facts_from(&lines, &given);
@@ -150,11 +150,11 @@ fn select_or_report<R: Files + Input + Env + AllocGlobal + Clone + Drop>(
 ) -> Result<Answer, AllocError> {
     match select_answer(rt, matches) {
         Ok(answer) => Ok(answer),
-        Err(Refusal::Unusable(lines)) => selection_errors(matches).report_arguments(
+        Err(QueryError::Unusable(lines)) => selection_errors(matches).report_arguments(
             rt.alloc(),
             lines.as_str(),
         ),
-        Err(Refusal::Memory(refused)) => Err(refused),
+        Err(QueryError::Memory(refused)) => Err(refused),
     }
 }
 
@@ -162,7 +162,7 @@ fn select_or_report<R: Files + Input + Env + AllocGlobal + Clone + Drop>(
 fn other_rustc<R: Files + Input + AllocGlobal>(
     rt: &R,
     matches: &ArgMatches<'_>,
-) -> Result<Option<OtherRustc>, Refusal> {
+) -> Result<Option<OtherRustc>, QueryError> {
     match given_targets(rt, matches)? {
         Some(given) => Ok(Some(OtherRustc::of(rt.alloc(), given)?)),
         None => Ok(None),
@@ -220,7 +220,7 @@ fn lint_answer<R: Files + Input + Env + AllocGlobal + Clone + Drop>(
     rt: &R,
     matches: &ArgMatches<'_>,
     shown: &OutputContext<'_>,
-) -> Result<Answer, Refusal> {
+) -> Result<Answer, QueryError> {
     let alloc = rt.alloc();
     if matches.get_flag("list-codes") {
         return Ok(listed_codes(alloc)?);
@@ -239,14 +239,14 @@ fn lint_answer<R: Files + Input + Env + AllocGlobal + Clone + Drop>(
         other: None,
         fixing: fixing_of(matches),
     };
-    let mut documents = Documents::new(alloc, limit_of(matches));
+    let mut documents = ManifestCache::new(alloc, limit_of(matches));
     match other_rustc(rt, matches) {
         Ok(other) => options.other = other,
-        Err(Refusal::Unusable(line)) => {
+        Err(QueryError::Unusable(line)) => {
             let unusable = [unusable_targets(alloc, matches, line.as_str())?];
             return Ok(lint_each(rt, &[], &unusable, &options, documents)?);
         }
-        Err(Refusal::Memory(refused)) => return Err(refused.into()),
+        Err(QueryError::Memory(refused)) => return Err(refused.into()),
     }
     let SelectedManifests {
         paths,
@@ -265,7 +265,7 @@ fn lint_answer<R: Files + Input + Env + AllocGlobal + Clone + Drop>(
 }
 
 /// Runs `compare`.
-fn compare_answer(alloc: Global, matches: &ArgMatches<'_>) -> Result<Answer, Refusal> {
+fn compare_answer(alloc: Global, matches: &ArgMatches<'_>) -> Result<Answer, QueryError> {
     let first = word(matches, "first");
     let second = word(matches, "second");
     let budget = matches.get_one::<u64>("budget").unwrap_or(0);
@@ -283,7 +283,7 @@ fn compare_answer(alloc: Global, matches: &ArgMatches<'_>) -> Result<Answer, Ref
 fn targets_answer<R: Files + Input + AllocGlobal>(
     rt: &R,
     matches: &ArgMatches<'_>,
-) -> Result<Answer, Refusal> {
+) -> Result<Answer, QueryError> {
     let key = word(matches, "key");
     let json = matches.get_flag("json");
     match given_targets(rt, matches)? {
@@ -296,7 +296,7 @@ fn targets_answer<R: Files + Input + AllocGlobal>(
 fn facts_answer<R: Files + Input + AllocGlobal>(
     rt: &R,
     matches: &ArgMatches<'_>,
-) -> Result<Answer, Refusal> {
+) -> Result<Answer, QueryError> {
     let name = word(matches, "name");
     match given_targets(rt, matches)? {
         Some(given) => questions::facts_in(rt.alloc(), name, &given),
@@ -311,13 +311,13 @@ fn question_answer<R: Files + Input + AllocGlobal>(
 ) -> Result<Answer, AllocError> {
     let alloc = rt.alloc();
     if let Some(m) = matches.subcommand_matches("targets") {
-        return answered(alloc, targets_answer(rt, m));
+        return answer_or_error(alloc, targets_answer(rt, m));
     }
     if let Some(m) = matches.subcommand_matches("facts") {
-        return answered(alloc, facts_answer(rt, m));
+        return answer_or_error(alloc, facts_answer(rt, m));
     }
     if let Some(m) = matches.subcommand_matches("compare") {
-        return answered(alloc, compare_answer(alloc, m));
+        return answer_or_error(alloc, compare_answer(alloc, m));
     }
     let text = String::from_str(alloc, "error: no such subcommand\n")?;
     Ok(Answer::unusable(alloc, text))
@@ -330,7 +330,7 @@ pub fn answer_to<R: Files + Input + Env + AllocGlobal + Clone + Drop>(
     shown: &OutputContext<'_>,
 ) -> Result<Answer, AllocError> {
     if let Some(m) = matches.subcommand_matches("lint") {
-        return answered(rt.alloc(), lint_answer(rt, m, shown));
+        return answer_or_error(rt.alloc(), lint_answer(rt, m, shown));
     }
     if let Some(m) = matches.subcommand_matches("select") {
         return select_or_report(rt, m);
@@ -339,7 +339,7 @@ pub fn answer_to<R: Files + Input + Env + AllocGlobal + Clone + Drop>(
         return graph_answer(rt, m);
     }
     if let Some(m) = matches.subcommand_matches("match") {
-        return answered(rt.alloc(), match_answer(rt, m));
+        return answer_or_error(rt.alloc(), match_answer(rt, m));
     }
     question_answer(rt, matches)
 }

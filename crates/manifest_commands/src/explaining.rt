@@ -1,7 +1,7 @@
 //! The options `--list-codes` and `--explain` of `lint`.
 
 use diagnostics::level_word;
-use key_answers::answer::{Answer, Refusal, Status, unusable_words};
+use key_answers::answer::{Answer, QueryError, Status, argument_error};
 use lint_reports::codes::{all_explained, unknown_lint};
 use std::alloc::{AllocError, Global};
 
@@ -19,7 +19,7 @@ pub fn listed_codes(alloc: Global) -> Result<Answer, AllocError> {
 }
 
 /// Explains the lint of this name. Fails if there is no such lint.
-pub fn explained_code(alloc: Global, word: &str) -> Result<Answer, Refusal> {
+pub fn explained_code(alloc: Global, word: &str) -> Result<Answer, QueryError> {
     for explained in &all_explained(alloc)? {
         if explained.lint.word() == word {
             let level = level_word(explained.level);
@@ -29,5 +29,5 @@ pub fn explained_code(alloc: Global, word: &str) -> Result<Answer, Refusal> {
         }
     }
     let message = unknown_lint(alloc, word)?.line(alloc)?;
-    Err(unusable_words(alloc, message.as_str()))
+    Err(argument_error(alloc, message.as_str()))
 }

@@ -9,7 +9,7 @@ use cargo_platform::shown_text;
 use clap::ArgMatches;
 use graph_queries::query::{GraphArguments, Provenance, Requested};
 use input_limits::INPUT;
-use key_answers::answer::{Answer, Refusal, answered};
+use key_answers::answer::{Answer, QueryError, answer_or_error};
 use manifest_answers::given_targets::GivenTargets;
 use std::alloc::{AllocError, Global};
 use std::rt::{Env, Files};
@@ -50,7 +50,7 @@ pub fn graph_answer<R: Files + Input + Env + AllocGlobal>(
 ) -> Result<Answer, AllocError> {
     match files_of(rt, matches) {
         Ok(files) => answer_of(rt, matches, &files),
-        Err(refusal) => Ok(answered(rt.alloc(), Err(refusal))?),
+        Err(refusal) => Ok(answer_or_error(rt.alloc(), Err(refusal))?),
     }
 }
 
@@ -58,7 +58,7 @@ pub fn graph_answer<R: Files + Input + Env + AllocGlobal>(
 fn files_of<'a, R: Files + AllocGlobal>(
     rt: &R,
     matches: &ArgMatches<'a>,
-) -> Result<OptionFiles<'a>, Refusal> {
+) -> Result<OptionFiles<'a>, QueryError> {
     Ok(OptionFiles {
         against: file_of(rt, matches, "against")?,
         allow_file: file_of(rt, matches, "allow-file")?,
@@ -71,7 +71,7 @@ fn file_of<'a, R: Files + AllocGlobal>(
     rt: &R,
     matches: &ArgMatches<'a>,
     option: &str,
-) -> Result<OptionFile<'a>, Refusal> {
+) -> Result<OptionFile<'a>, QueryError> {
     match matches.get_str(option) {
         Some(name) => Ok(Some((name, text_at(rt, name, limit_of(matches))?))),
         None => Ok(None),
@@ -87,7 +87,7 @@ fn answer_of<R: Files + Input + Env + AllocGlobal>(
     match given_targets(rt, matches) {
         Ok(None) => answer_locked(rt, matches, files, None),
         Ok(Some(given)) => answer_locked(rt, matches, files, Some(&given)),
-        Err(refusal) => Ok(answered(rt.alloc(), Err(refusal))?),
+        Err(refusal) => Ok(answer_or_error(rt.alloc(), Err(refusal))?),
     }
 }
 
@@ -101,7 +101,7 @@ fn answer_locked<R: Files + Input + Env + AllocGlobal>(
     match lock_of(rt, matches) {
         Ok(None) => answer_with(rt, matches, files, given, None),
         Ok(Some(lock)) => answer_with(rt, matches, files, given, Some(&lock)),
-        Err(refusal) => Ok(answered(rt.alloc(), Err(refusal))?),
+        Err(refusal) => Ok(answer_or_error(rt.alloc(), Err(refusal))?),
     }
 }
 
@@ -110,7 +110,7 @@ fn answer_locked<R: Files + Input + Env + AllocGlobal>(
 fn seconds_of<R: Env + AllocGlobal>(
     rt: &R,
     matches: &ArgMatches<'_>,
-) -> Result<Option<u64>, Refusal> {
+) -> Result<Option<u64>, QueryError> {
     if matches.get_str("html").is_none() && matches.get_str("format").is_none() {
         return Ok(None);
     }
@@ -123,7 +123,7 @@ fn seconds_of<R: Env + AllocGlobal>(
         Some(seconds) => Ok(Some(seconds)),
         None => {
             let text = "error: SOURCE_DATE_EPOCH is not a number of seconds\n";
-            Err(Refusal::Unusable(String::from_str(rt.alloc(), text)?))
+            Err(QueryError::Unusable(String::from_str(rt.alloc(), text)?))
         }
     }
 }
@@ -144,7 +144,7 @@ fn answer_with<R: Files + Input + Env + AllocGlobal>(
     };
     let seconds = match seconds_of(rt, matches) {
         Ok(seconds) => seconds,
-        Err(refusal) => return Ok(answered(alloc, Err(refusal))?),
+        Err(refusal) => return Ok(answer_or_error(alloc, Err(refusal))?),
     };
     let facts_of = match given {
         Some(given) => Some((given.file.as_str(), given.table(alloc)?)),
@@ -189,7 +189,7 @@ fn answer_with<R: Files + Input + Env + AllocGlobal>(
             let report = report_on(alloc, file, text.as_str(), &arguments, bill)?;
             written(rt, report, matches.get_str("html"))
         }
-        Err(refusal) => Ok(answered(alloc, Err(refusal))?),
+        Err(refusal) => Ok(answer_or_error(alloc, Err(refusal))?),
     }
 }
 

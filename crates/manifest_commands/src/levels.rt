@@ -2,7 +2,7 @@
 
 use clap::ArgMatches;
 use diagnostics::{LintLevel, Rule, Setting, Subject};
-use key_answers::answer::{Refusal, unusable_words};
+use key_answers::answer::{QueryError, argument_error};
 use lint_reports::codes::unknown_subject;
 use std::alloc::{AllocError, Global};
 
@@ -29,7 +29,7 @@ struct Placed {
 }
 
 /// Returns the rule of an option with this value. Fails if no lint has the name.
-fn rule_of(alloc: Global, setting: Setting, word: &str) -> Result<Rule, Refusal> {
+fn rule_of(alloc: Global, setting: Setting, word: &str) -> Result<Rule, QueryError> {
     match Subject::of(word) {
         Some(subject) => Ok(Rule {
             setting,
@@ -39,7 +39,7 @@ fn rule_of(alloc: Global, setting: Setting, word: &str) -> Result<Rule, Refusal>
         }),
         None => {
             let message = unknown_subject(alloc, word)?.line(alloc)?;
-            Err(unusable_words(alloc, message.as_str()))
+            Err(argument_error(alloc, message.as_str()))
         }
     }
 }
@@ -61,7 +61,7 @@ fn in_order(alloc: Global, mut placed: Vec<Placed>) -> Result<Vec<Rule>, AllocEr
 }
 
 /// Returns the rules of the command line, in the order of its arguments. Fails if a value is not the name of a lint.
-pub fn command_rules(alloc: Global, matches: &ArgMatches<'_>) -> Result<Vec<Rule>, Refusal> {
+pub fn command_rules(alloc: Global, matches: &ArgMatches<'_>) -> Result<Vec<Rule>, QueryError> {
     let mut placed: Vec<Placed> = Vec::new(alloc);
     for setting in OPTIONS {
         let words = matches.get_strs(setting.word()).unwrap_or(&[]);

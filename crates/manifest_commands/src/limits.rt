@@ -2,8 +2,8 @@
 
 use cargo_platform::shown_text;
 use clap::ArgMatches;
-use input_limits::{LIMIT, InputError, read_file, read_input};
-use key_answers::answer::Refusal;
+use input_limits::{InputError, LIMIT, read_file, read_input};
+use key_answers::answer::QueryError;
 use std::alloc::{AllocError, Global};
 use std::io::{self, ErrorKind};
 use std::rt::Files;
@@ -27,15 +27,15 @@ fn text_read(
     file: &str,
     read: io::Result<String>,
     limit: u64,
-) -> Result<String, Refusal> {
+) -> Result<String, QueryError> {
     match read {
         Ok(text) => Ok(text),
         Err(error) => {
             if error.kind() == ErrorKind::OutOfMemory {
-                return Err(Refusal::Memory(AllocError));
+                return Err(QueryError::Memory(AllocError));
             }
             let unusable = InputError::refused(alloc, shown_text(alloc, file)?, &error, limit)?;
-            Err(Refusal::Unusable(unusable.line(alloc)?))
+            Err(QueryError::Unusable(unusable.line(alloc)?))
         }
     }
 }
@@ -45,11 +45,15 @@ pub fn text_of<R: Files + Input + AllocGlobal>(
     rt: &R,
     file: &str,
     limit: u64,
-) -> Result<String, Refusal> {
+) -> Result<String, QueryError> {
     text_read(rt.alloc(), file, read_input(rt, file, limit), limit)
 }
 
 /// Reads a file. Fails if it has more bytes than the limit.
-pub fn text_at<R: Files + AllocGlobal>(rt: &R, file: &str, limit: u64) -> Result<String, Refusal> {
+pub fn text_at<R: Files + AllocGlobal>(
+    rt: &R,
+    file: &str,
+    limit: u64,
+) -> Result<String, QueryError> {
     text_read(rt.alloc(), file, read_file(rt, file, limit), limit)
 }

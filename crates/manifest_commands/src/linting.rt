@@ -30,7 +30,7 @@ use std::alloc::{AllocError, Global};
 use std::mem;
 use std::rt::{Env, Files};
 use toml::Table;
-use workspaces::{Documents, shorter};
+use workspaces::{ManifestCache, simplified_path};
 
 /// The options of `lint`.
 #[derive(Drop)]
@@ -82,7 +82,7 @@ struct Rules<'a> {
 struct LintRun<'a> {
     options: &'a LintOptions,
     /// The manifests that have been read.
-    documents: Documents,
+    documents: ManifestCache,
     counts: Counts,
     printed: Printer,
     answer: Answer,
@@ -255,7 +255,7 @@ impl<'a> LintRun<'a> {
 /// Returns the places in the text of the manifest of a root. There are none if it can't be read.
 fn places_at<R: Files + AllocGlobal>(
     rt: &R,
-    documents: &mut Documents,
+    documents: &mut ManifestCache,
     file: &str,
 ) -> Result<Locations, AllocError> {
     let alloc = rt.alloc();
@@ -624,7 +624,7 @@ fn fixes_for<R: Files + Input + Env + AllocGlobal>(
         return Ok(None);
     };
     let needed = root.needed.clone()?;
-    let none = Documents::new(alloc, run.documents.limit);
+    let none = ManifestCache::new(alloc, run.documents.limit);
     let mut collecting = LintRun {
         options: run.options,
         documents: mem::replace(&mut run.documents, none),
@@ -664,9 +664,9 @@ fn lint_fixed<R: Files + Input + Env + AllocGlobal>(
 
 /// Returns whether one of the paths leads to the file.
 fn has_path(alloc: Global, paths: &[&str], file: &str) -> Result<bool, AllocError> {
-    let file = shorter(alloc, file)?;
+    let file = simplified_path(alloc, file)?;
     for path in paths {
-        let path = shorter(alloc, path)?;
+        let path = simplified_path(alloc, path)?;
         if path.as_str() == file.as_str() {
             return Ok(true);
         }
@@ -716,7 +716,7 @@ pub fn lint_each<R: Files + Input + Env + AllocGlobal>(
     paths: &[&str],
     unusable: &[InputError],
     options: &LintOptions,
-    documents: Documents,
+    documents: ManifestCache,
 ) -> Result<Answer, AllocError> {
     let alloc = rt.alloc();
     let known_facts = KnownFacts::new(alloc)?;

@@ -8,7 +8,7 @@ use cyclonedx::{LockError, LockFault, LockFile, read_lock};
 use diagnostics::{Diagnostic, EmittedDiagnostic, LintLevel, diagnostic_of_failure};
 use graph_answers::cyclonedx_report::Bill;
 use input_limits::strip_byte_order_mark;
-use key_answers::answer::Refusal;
+use key_answers::answer::QueryError;
 use lint_reports::{Format, Printer, Style};
 use manifests::key_locations::Location;
 use std::alloc::{AllocError, Global};
@@ -70,7 +70,7 @@ fn rendered(alloc: Global, name: &str, text: &str, fault: LockFault) -> Result<S
 pub fn lock_of<R: Files + AllocGlobal>(
     rt: &R,
     matches: &ArgMatches<'_>,
-) -> Result<Option<NamedLock>, Refusal> {
+) -> Result<Option<NamedLock>, QueryError> {
     let alloc = rt.alloc();
     let Some(file) = matches.get_str("lock") else {
         return Ok(None);
@@ -82,9 +82,9 @@ pub fn lock_of<R: Files + AllocGlobal>(
         Ok(lock) => Ok(Some(NamedLock { name, lock })),
         Err(LockError::Fault(fault)) => {
             let lines = rendered(alloc, name.as_str(), text, fault)?;
-            Err(Refusal::Unusable(lines))
+            Err(QueryError::Unusable(lines))
         }
-        Err(LockError::Memory(refused)) => Err(Refusal::Memory(refused)),
+        Err(LockError::Memory(refused)) => Err(QueryError::Memory(refused)),
     }
 }
 

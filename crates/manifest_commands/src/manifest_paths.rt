@@ -6,7 +6,7 @@ use input_limits::{INPUT, InputError, read_input};
 use manifests::reading::ReadError;
 use std::alloc::{AllocError, Global};
 use std::rt::{Env, Files};
-use workspaces::{Documents, Found, ManifestSelection, find, put_text};
+use workspaces::{Found, ManifestCache, ManifestSelection, find, put_text};
 
 /// The paths of the selected manifests, and the errors for those that can't be found.
 #[derive(Drop)]
@@ -46,7 +46,7 @@ fn leave_out_input(files: &mut Vec<String>) {
 /// Fails if standard input cannot be used.
 fn manifest_given<R: Files + Input + AllocGlobal>(
     rt: &R,
-    documents: &mut Documents,
+    documents: &mut ManifestCache,
     path: &str,
 ) -> Result<String, ReadError> {
     let alloc = rt.alloc();
@@ -82,7 +82,7 @@ fn selection_by(alloc: Global, matches: &ArgMatches<'_>) -> Result<ManifestSelec
 /// manifest at that path. The manifests that are read for this are kept in `documents`.
 pub fn find_manifests<R: Files + Input + Env + AllocGlobal + Clone + Drop>(
     rt: &R,
-    documents: &mut Documents,
+    documents: &mut ManifestCache,
     matches: &ArgMatches<'_>,
 ) -> Result<SelectedManifests, AllocError> {
     let alloc = rt.alloc();

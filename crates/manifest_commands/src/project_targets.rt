@@ -3,13 +3,13 @@
 use crate::limits::{reason_in, text_at};
 use crate::other_rustc::OtherRustc;
 use cargo_platform::shown_text;
-use key_answers::answer::Refusal;
+use key_answers::answer::QueryError;
 use lint_reports::{CustomTarget, Settings};
 use manifest_answers::given_targets::GivenTargets;
 use std::alloc::{AllocError, Global};
 use std::mem;
 use std::rt::Files;
-use workspaces::{folder_of, inside};
+use workspaces::{folder_of, join_path};
 
 /// The manifest with settings.
 #[derive(Clone, Copy, Drop)]
@@ -26,17 +26,17 @@ impl ManifestFile<'_> {
         rt: &R,
         target: &CustomTarget,
         given: &mut GivenTargets,
-    ) -> Result<(), Refusal> {
+    ) -> Result<(), QueryError> {
         let alloc = rt.alloc();
-        let file = inside(alloc, folder_of(self.path), target.file.as_str())?;
+        let file = join_path(alloc, folder_of(self.path), target.file.as_str())?;
         match text_at(rt, file.as_str(), self.limit) {
             Ok(text) => given.add(alloc, target.name.as_str(), text.as_str()),
-            Err(Refusal::Unusable(message)) => {
+            Err(QueryError::Unusable(message)) => {
                 let shown = shown_text(alloc, file.as_str())?;
                 let reason = reason_in(message.as_str(), shown.as_str());
-                Err(Refusal::Unusable(String::from_str(alloc, reason)?))
+                Err(QueryError::Unusable(String::from_str(alloc, reason)?))
             }
-            Err(Refusal::Memory(refused)) => Err(refused.into()),
+            Err(QueryError::Memory(refused)) => Err(refused.into()),
         }
     }
 
@@ -62,13 +62,13 @@ impl ManifestFile<'_> {
         for target in &targets {
             match self.add_target(rt, target, &mut given) {
                 Ok(()) => {}
-                Err(Refusal::Unusable(message)) => {
+                Err(QueryError::Unusable(message)) => {
                     let shown = shown_text(alloc, target.file.as_str())?;
                     let reason = reason_in(message.as_str(), "");
                     let reason = format!(in alloc; "cannot use `{shown}`: {reason}")?;
                     settings.reject_target(alloc, target.entry, reason)?;
                 }
-                Err(Refusal::Memory(refused)) => return Err(refused),
+                Err(QueryError::Memory(refused)) => return Err(refused),
             }
         }
         settings.custom_targets = targets;

@@ -10,8 +10,8 @@ use graph_lines::show;
 use graph_queries::graph::Graph;
 use graph_queries::query::{GraphArguments, GraphQuery, unusable_words};
 use graph_queries::reading::{Input, Rejected, document_of, graph_in, graph_of};
-use key_answers::answer::{Answer, Refusal, Status, answered};
-use selected_targets::{TableSelection, grouped};
+use key_answers::answer::{Answer, QueryError, Status, answer_or_error};
+use selected_targets::{TableSelection, group_targets};
 use serde_json::Value;
 use std::alloc::{AllocError, Global};
 
@@ -51,7 +51,7 @@ fn request_of<'a, 'b>(
     arguments: &GraphArguments<'a>,
     bill: Option<Bill<'b>>,
     policy: Option<AuditPolicy>,
-) -> Result<Request<'a, 'b>, Refusal> {
+) -> Result<Request<'a, 'b>, QueryError> {
     if bill.is_some() {
         if let Some(text) = misplaced_format(arguments) {
             return Err(unusable_words(alloc, text));
@@ -136,7 +136,7 @@ fn report_on_document(
                 mut linked,
                 declared,
             } = input;
-            let groups = grouped(alloc, table, &metadata, &mut linked)?;
+            let groups = group_targets(alloc, table, &metadata, &mut linked)?;
             let query = query.in_groups(&groups);
             let input = Input {
                 document,
@@ -155,7 +155,7 @@ fn report_on_document(
 }
 
 /// Returns the result, with the name of the file in the message of an error.
-fn of_file<T>(alloc: Global, file: &str, found: Result<T, Rejected>) -> Result<T, Refusal> {
+fn of_file<T>(alloc: Global, file: &str, found: Result<T, Rejected>) -> Result<T, QueryError> {
     match found {
         Ok(found) => Ok(found),
         Err(rejected) => Err(rejected.in_file(alloc, file)),
@@ -188,7 +188,7 @@ fn report_on_text(
     text: &str,
     arguments: &GraphArguments<'_>,
     bill: Option<Bill<'_>>,
-) -> Result<Report, Refusal> {
+) -> Result<Report, QueryError> {
     let Some(policy) = policy_of(alloc, arguments)? else {
         let request = request_of(alloc, arguments, bill, None)?;
         return report_by(alloc, file, text, arguments, request);
@@ -216,7 +216,7 @@ fn report_by(
     text: &str,
     arguments: &GraphArguments<'_>,
     request: Request<'_, '_>,
-) -> Result<Report, Refusal> {
+) -> Result<Report, QueryError> {
     let file = shown_text(alloc, file)?;
     let document = of_file(alloc, file.as_str(), document_of(alloc, text))?;
     let report = match arguments.against {
@@ -244,6 +244,6 @@ pub fn report_on(
 ) -> Result<Report, AllocError> {
     match report_on_text(alloc, file, text, arguments, bill) {
         Ok(report) => Ok(report),
-        Err(refusal) => Ok(Report::without_page(answered(alloc, Err(refusal))?)),
+        Err(refusal) => Ok(Report::without_page(answer_or_error(alloc, Err(refusal))?)),
     }
 }

@@ -9,7 +9,7 @@ use lint_reports::Settings;
 use std::alloc::{AllocError, Global};
 use std::rt::{Env, Files};
 use toml::{Table, Value};
-use workspaces::{Document, Documents, Inheritable, inherits_lints, root_of, shorter};
+use workspaces::{Document, Inheritable, ManifestCache, inherits_lints, root_of, simplified_path};
 
 /// The root of a workspace.
 #[derive(Drop)]
@@ -81,7 +81,7 @@ impl Root {
     /// Returns the root to which the manifest at this path belongs, or none if that is `current`.
     pub fn of<R: Files + Env + AllocGlobal>(
         rt: &R,
-        documents: &mut Documents,
+        documents: &mut ManifestCache,
         path: &str,
         current: &Root,
     ) -> Result<Option<Root>, AllocError> {
@@ -90,7 +90,7 @@ impl Root {
             String::from_str(alloc, INPUT)?
         } else {
             let file = root_of(rt, documents, path)?;
-            shorter(alloc, file.as_str())?
+            simplified_path(alloc, file.as_str())?
         };
         if file.as_str() == current.file.as_str() {
             return Ok(None);
@@ -112,7 +112,7 @@ impl Root {
     pub fn read_again<R: Files + AllocGlobal>(
         &mut self,
         rt: &R,
-        documents: &mut Documents,
+        documents: &mut ManifestCache,
         other: Option<&OtherRustc>,
     ) -> Result<(), AllocError> {
         let alloc = rt.alloc();
@@ -151,7 +151,7 @@ impl Root {
 
     /// Returns whether its manifest is the one at a path.
     pub fn is_at(&self, alloc: Global, path: &str) -> Result<bool, AllocError> {
-        let path = shorter(alloc, path)?;
+        let path = simplified_path(alloc, path)?;
         Ok(path.as_str() == self.file.as_str())
     }
 

@@ -3,7 +3,7 @@
 use crate::limits::limit_of;
 use cargo_configuration::{FlagFacts, FlaggedTarget, SharedFlags, flag_facts};
 use clap::ArgMatches;
-use key_answers::answer::Refusal;
+use key_answers::answer::QueryError;
 use key_answers::targets::names_of;
 use known_targets::TargetSet;
 use manifest_answers::given_targets::FactsFrom;
@@ -105,7 +105,7 @@ impl TargetsWithFlags {
 fn flags_at_hand<R: Files + Input + Env + AllocGlobal>(
     rt: &R,
     matches: &ArgMatches<'_>,
-) -> Result<Option<SharedFlags>, Refusal> {
+) -> Result<Option<SharedFlags>, QueryError> {
     if matches.get_flag("no-config") {
         return Ok(None);
     }
@@ -149,7 +149,7 @@ pub fn targets_with_flags<R: Files + Input + Env + AllocGlobal>(
     matches: &ArgMatches<'_>,
     names: &[String],
     from: FactsFrom<'_>,
-) -> Result<TargetsWithFlags, Refusal> {
+) -> Result<TargetsWithFlags, QueryError> {
     let alloc = rt.alloc();
     let mut flagged = TargetsWithFlags {
         targets: Vec::new(alloc),

@@ -3,7 +3,7 @@
 use crate::limits::{reason_in, text_of};
 use crate::target_names::ALL_TARGETS;
 use cargo_platform::{Platform, shown_text};
-use key_answers::answer::Refusal;
+use key_answers::answer::QueryError;
 use key_answers::conditions::read_key;
 use manifest_answers::given_targets::GivenTargets;
 use std::alloc::{AllocError, Global};
@@ -24,7 +24,7 @@ impl<'a> CustomTarget<'a> {
         alloc: Global,
         value: &'a str,
         earlier: &[CustomTarget<'a>],
-    ) -> Result<CustomTarget<'a>, Refusal> {
+    ) -> Result<CustomTarget<'a>, QueryError> {
         let (name, file) = value.split_once('=').unwrap_or(("", ""));
         if name.is_empty() || file.is_empty() {
             return Err(refused(alloc, value, "the value is not NAME=FILE")?);
@@ -47,17 +47,17 @@ impl<'a> CustomTarget<'a> {
         rt: &R,
         given: &mut GivenTargets,
         limit: u64,
-    ) -> Result<(), Refusal> {
+    ) -> Result<(), QueryError> {
         let text = text_of(rt, self.file, limit)?;
         given.add(rt.alloc(), self.name, text.as_str())
     }
 }
 
 /// Returns the error of a value.
-fn refused(alloc: Global, value: &str, reason: &str) -> Result<Refusal, AllocError> {
+fn refused(alloc: Global, value: &str, reason: &str) -> Result<QueryError, AllocError> {
     let value = shown_text(alloc, value)?;
     let line = format!(in alloc; "error: --target-spec {value}: {reason}\n")?;
-    Ok(Refusal::Unusable(line))
+    Ok(QueryError::Unusable(line))
 }
 
 /// Returns whether a target can have this name: a key can, `--target` takes it for one target, and it is not the file
@@ -68,8 +68,8 @@ fn is_target_name(alloc: Global, name: &str) -> Result<bool, AllocError> {
     }
     match read_key(alloc, name) {
         Ok(Platform::Name(_)) => Ok(true),
-        Ok(Platform::Cfg(_)) | Err(Refusal::Unusable(_)) => Ok(false),
-        Err(Refusal::Memory(refused)) => Err(refused),
+        Ok(Platform::Cfg(_)) | Err(QueryError::Unusable(_)) => Ok(false),
+        Err(QueryError::Memory(refused)) => Err(refused),
     }
 }
 
@@ -80,7 +80,7 @@ pub fn with_custom_targets<R: Files + Input + AllocGlobal>(
     given: Option<GivenTargets>,
     values: &[&str],
     limit: u64,
-) -> Result<Option<GivenTargets>, Refusal> {
+) -> Result<Option<GivenTargets>, QueryError> {
     if values.is_empty() {
         return Ok(given);
     }
@@ -97,12 +97,12 @@ pub fn with_custom_targets<R: Files + Input + AllocGlobal>(
     for target in added {
         match target.add_to(rt, &mut given, limit) {
             Ok(()) => {}
-            Err(Refusal::Unusable(message)) => {
+            Err(QueryError::Unusable(message)) => {
                 let file = shown_text(alloc, target.file)?;
                 let reason = reason_in(message.as_str(), file.as_str());
                 return Err(refused(alloc, target.value, reason)?);
             }
-            Err(Refusal::Memory(refused)) => return Err(refused.into()),
+            Err(QueryError::Memory(refused)) => return Err(refused.into()),
         }
     }
     given.file.push_str(" with --target-spec")?;

@@ -17,7 +17,7 @@ ghost use Rattle.manifest_lints.specs.Numbers.{pair_at, truths_with, apart, apar
 ghost use Rattle.manifest_lints.specs.Samples.{is_set, is_only, mixed, spread, mixed_truths};
 
 use cargo_platform::{Cfg, CfgExpr, FactIndex, Fold, Platform, fold_expression, values_of};
-use known_targets::{KnownTarget, TargetSet, having, names};
+use known_targets::{KnownTarget, TargetSet, names, targets_with_fact};
 use partial_facts::ONE_VALUED;
 use partial_facts::names::is_among;
 use std::alloc::{AllocError, Global};
@@ -203,7 +203,7 @@ fn is_unknown(c: &Cfg) -> bool
     ensures { result ≡ is_unknown_value (pair_of (value_of c.now)) }
 {
     if is_of_key(c, ONE_VALUED) {
-        return having(c).is_empty();
+        return targets_with_fact(c).is_empty();
     }
     false
 }
@@ -401,7 +401,7 @@ fn targets_of(c: &Cfg) -> Option<TargetSet>
         → is_member targets k ≡ contains (target_facts k) (pair_of (value_of c.now))) }
     ensures none { IfNone result (is_rustcs (pair_of (value_of c.now)) ≡ false) }
 {
-    let targets = having(c);
+    let targets = targets_with_fact(c);
     if is_of_key(c, ONE_VALUED) {
         return Some(targets);
     }

@@ -8,41 +8,41 @@ use Rattle.toml.specs.Data.{Members, as_table}
 use Rattle.cargo_platform.specs.Trees.{Condition}
 use Rattle.cargo_platform.specs.Platforms.{IsConditionText}
 use Rattle.manifests.specs.Entries.{Entry, entry_of}
-use Rattle.manifests.specs.Selecting.{Question, ChosenRow, IsChoiceFor, AreChosen, Adds, chosen_of, IsReadKey}
+use Rattle.manifests.specs.Selecting.{Question, ChosenRow, IsDecisionFor, AreChosen, Adds, chosen_of, IsReadKey}
 use Rattle.manifests.specs.Selecting.{AreRowsOfKey, AreRowsOfKeys, of_none, of_more, OfFirstUnread}
 use Rattle.manifests.specs.Selecting.{IsErrorOn, IsErrorUnder}
 use Rattle.manifests.specs.Tables.{DependencyRow, row_of, rows_of}
-use Rattle.manifests.specs.declared.selection.Choice.{Choice}
-use Rattle.manifests.specs.declared.selection.Row.{Row}
+use Rattle.manifests.specs.declared.selection.Decision.{Decision}
+use Rattle.manifests.specs.declared.selection.DependencyDecision.{DependencyDecision}
 use Rattle.manifests.specs.declared.selection.SelectError.{SelectError}
 use Rattle.manifests.specs.declared.selection.SelectError.TheVariants.{Memory, TargetIsNoTable, KeyIsNoTable, Refused}
 use Rattle.manifests.specs.declared.tables.Dependency.{Dependency}
 use Rattle.manifests.specs.declared.tables.TargetKey.{TargetKey}
 
-pub one_chosen : (q : Question) (c : Condition) (ds : List Dependency) (i : ℕ) (d : Dependency) (choice : Choice)
-    (init old new : List Row) → i < length ds → Adds (AreChosen q c (map row_of (take i ds))) init old
-    → IsChoiceFor q (get_or ds i d).kind c choice
-    → new ≡ old ++ record { dependency = get_or ds i d; choice = choice } ∷ []
+pub one_chosen : (q : Question) (c : Condition) (ds : List Dependency) (i : ℕ) (d : Dependency) (decision : Decision)
+    (init old new : List DependencyDecision) → i < length ds → Adds (AreChosen q c (map row_of (take i ds))) init old
+    → IsDecisionFor q (get_or ds i d).kind c decision
+    → new ≡ old ++ record { dependency = get_or ds i d; decision = decision } ∷ []
     → Adds (AreChosen q c (map row_of (take (i + 1) ds))) init new
-one_chosen q c ds i d choice init old new within before is now =
+one_chosen q c ds i d decision init old new within before is now =
     let x = get_or ds i d in
-    let r : ChosenRow = (row_of x, choice) in
+    let r : ChosenRow = (row_of x, decision) in
     record {
       added = before.added ++ r ∷ [];
       are =
-          ap (map chosen_of) now ∙ map-append chosen_of old (record { dependency = x; choice = choice } ∷ [])
+          ap (map chosen_of) now ∙ map-append chosen_of old (record { dependency = x; decision = decision } ∷ [])
           ∙ ap (λ rs. rs ++ r ∷ []) before.are ∙ append_assoc (map chosen_of init) before.added (r ∷ []);
       such = record {
         dependencies =
             map-append (λ (s : ChosenRow). s.0) before.added (r ∷ [])
             ∙ ap (λ rs. rs ++ row_of x ∷ []) before.such.dependencies
             ∙ sym (map-append row_of (take i ds) (x ∷ [])) ∙ ap (map row_of) (sym (take_more ds i d within));
-        choices = All-push (λ (s : ChosenRow). IsChoiceFor q s.0.kind c s.1) before.added r before.such.choices is;
+        decisions = All-push (λ (s : ChosenRow). IsDecisionFor q s.0.kind c s.1) before.added r before.such.decisions is;
       };
     }
 
 -- the dependencies in a key's table, by its condition, are the rows of the key
-pub of_key : (q : Question) (e : Entry) (c : Condition) (t : Members) (ds : List DependencyRow) (old new : List Row)
+pub of_key : (q : Question) (e : Entry) (c : Condition) (t : Members) (ds : List DependencyRow) (old new : List DependencyDecision)
     → IsConditionText e.0 c → as_table e.1 ≡ Some t → ds ≡ rows_of (Some e.0) t → Adds (AreChosen q c ds) old new
     → Adds (AreRowsOfKey q e) old new
 of_key q e c t ds old new spelled at_table are adds = record {
@@ -54,10 +54,10 @@ of_key q e c t ds old new spelled at_table are adds = record {
   };
 }
 
-pub none_added : (q : Question) (rows : List Row) → Adds (AreRowsOfKeys q []) rows rows
+pub none_added : (q : Question) (rows : List DependencyDecision) → Adds (AreRowsOfKeys q []) rows rows
 none_added q rows = record { added = []; are = sym (append-nil (map chosen_of rows)); such = of_none }
 
-pub one_key : (q : Question) (keys : List TargetKey) (i : ℕ) (key : TargetKey) (init old new : List Row)
+pub one_key : (q : Question) (keys : List TargetKey) (i : ℕ) (key : TargetKey) (init old new : List DependencyDecision)
     → i < length keys → key ≡ get_or keys i key → Adds (AreRowsOfKeys q (map entry_of (take i keys))) init old
     → Adds (AreRowsOfKey q (entry_of key)) old new
     → Adds (AreRowsOfKeys q (map entry_of (take (i + 1) keys))) init new

@@ -12,14 +12,14 @@ use Rattle.known_targets.specs.declared.known.KnownTarget.{KnownTarget}
 use Rattle.known_targets.specs.Sets.{place}
 use Rattle.known_targets.specs.Table.{target_name, target_facts}
 use Rattle.manifests.specs.TargetFacts.{facts_told}
-use Rattle.manifests.specs.Choosing.{choice_of, IfOpen, IsChoiceBy}
+use Rattle.manifests.specs.Choosing.{decided_truth, IfOpen, IsDecisionBy}
 use Rattle.manifests.specs.Entries.{Entry}
 use Rattle.manifests.specs.Tables.{DependencyRow, row_of, rows_of, target_of}
 use Rattle.manifests.specs.declared.selection.TargetFacts.{TargetFacts}
-use Rattle.manifests.specs.declared.selection.Choice.{Choice}
-use Rattle.manifests.specs.declared.selection.Choice.TheVariants.{Selected}
+use Rattle.manifests.specs.declared.selection.Decision.{Decision}
+use Rattle.manifests.specs.declared.selection.Decision.TheVariants.{Selected}
 use Rattle.manifests.specs.declared.selection.Query.{Query}
-use Rattle.manifests.specs.declared.selection.Row.{Row}
+use Rattle.manifests.specs.declared.selection.DependencyDecision.{DependencyDecision}
 use Rattle.manifests.specs.declared.selection.SelectError.{SelectError}
 use Rattle.manifests.specs.declared.selection.SelectError.TheVariants.{Memory, TargetIsNoTable, KeyIsNoTable, Refused}
 use Rattle.manifests.specs.declared.tables.Kind.{Kind}
@@ -44,37 +44,37 @@ question_of target known host = record {
 abbrev pub question_in : Query → Question
 question_in q = question_of q.target.now q.known.now q.host
 
--- ---- the choice of a dependency
+-- ---- the decision of a dependency
 
 -- all facts of the host are known; without a known host, the condition is left as it is
-abbrev pub IsHostChoice : Option KnownTarget → Condition → Choice → Type 0
-IsHostChoice (Some host) c choice =
-    IsChoiceBy (target_name (place host)) (λ p. Some (contains (target_facts (place host)) p)) c choice
-IsHostChoice None c choice = (choice_of choice ≡ None) × IfOpen choice (λ rest. rest ≡ c)
+abbrev pub IsHostDecision : Option KnownTarget → Condition → Decision → Type 0
+IsHostDecision (Some host) c decision =
+    IsDecisionBy (target_name (place host)) (λ p. Some (contains (target_facts (place host)) p)) c decision
+IsHostDecision None c decision = (decided_truth decision ≡ None) × IfOpen decision (λ rest. rest ≡ c)
 
 -- the condition of a build-dependency is decided for the host, and any other for the target
-abbrev pub IsChoiceFor : Question → Kind → Condition → Choice → Type 0
-IsChoiceFor q Normal c choice = IsChoiceBy q.target q.told c choice
-IsChoiceFor q Development c choice = IsChoiceBy q.target q.told c choice
-IsChoiceFor q Build c choice = IsHostChoice q.host c choice
+abbrev pub IsDecisionFor : Question → Kind → Condition → Decision → Type 0
+IsDecisionFor q Normal c decision = IsDecisionBy q.target q.told c decision
+IsDecisionFor q Development c decision = IsDecisionBy q.target q.told c decision
+IsDecisionFor q Build c decision = IsHostDecision q.host c decision
 
 -- ---- the rows
 
--- a dependency, and its choice
+-- a dependency, and its decision
 abbrev pub ChosenRow : Type 0
-ChosenRow = DependencyRow × Choice
+ChosenRow = DependencyRow × Decision
 
-abbrev pub chosen_of : Row → ChosenRow
-chosen_of r = (row_of r.dependency, r.choice)
+abbrev pub chosen_of : DependencyDecision → ChosenRow
+chosen_of r = (row_of r.dependency, r.decision)
 
 -- outside `target` each dependency is selected
 abbrev pub selected : DependencyRow → ChosenRow
 selected d = (d, Selected)
 
--- the rows are those of these dependencies, in order, each with its choice
+-- the rows are those of these dependencies, in order, each with its decision
 pub record AreChosen (q : Question) (c : Condition) (ds : List DependencyRow) (rows : List ChosenRow) : Type 0 where
   pub dependencies : map (λ r. r.0) rows ≡ ds
-  pub choices : All (λ r. IsChoiceFor q r.0.kind c r.1) rows
+  pub decisions : All (λ r. IsDecisionFor q r.0.kind c r.1) rows
 
 -- a key that is a condition, and whose value is a table
 pub record IsReadKey (e : Entry) : Type 0 where
@@ -108,7 +108,7 @@ pub record AreRows (q : Question) (manifest : Members) (rows : List ChosenRow) :
   pub are_under : AreRowsUnder q (target_of manifest) under
 
 -- such rows follow the old ones, and nothing else
-pub record Adds (P : List ChosenRow → Type 0) (old new : List Row) : Type 0 where
+pub record Adds (P : List ChosenRow → Type 0) (old new : List DependencyDecision) : Type 0 where
   pub added : List ChosenRow
   pub are : map chosen_of new ≡ map chosen_of old ++ added
   pub such : P added

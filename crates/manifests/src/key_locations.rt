@@ -188,13 +188,13 @@ impl Locations {
     }
 
     /// Returns the position at which a key of `target` first appears, if it is known.
-    pub fn of_key(&self, key: &str) -> Option<Appearance> {
+    pub fn appearance_of(&self, key: &str) -> Option<Appearance> {
         self.keys.get(key).copied()
     }
 
     /// Returns the place of a key of `target`, if it is known.
-    pub fn at_key(&self, key: &str) -> Option<Location> {
-        match self.of_key(key) {
+    pub fn location_of_key(&self, key: &str) -> Option<Location> {
+        match self.appearance_of(key) {
             Some(appearance) => Some(appearance.at),
             None => None,
         }
@@ -202,7 +202,7 @@ impl Locations {
 
     /// Returns the number of keys of `target` that appear before this one, or `usize::MAX` if the key has no place.
     pub fn ordinal_of(&self, key: &str) -> usize {
-        match self.of_key(key) {
+        match self.appearance_of(key) {
             Some(appearance) => appearance.place,
             None => usize::MAX,
         }
@@ -219,18 +219,26 @@ impl Locations {
     ///
     /// An entry of such a field has its index as the last part of its path. The place of an entry that is a table is
     /// that of its `code`.
-    pub fn at_path(&self, path: &str) -> Option<Location> {
+    pub fn location_of_path(&self, path: &str) -> Option<Location> {
         self.others.get(path).copied()
     }
 
     /// Returns the later places of a key of `target`, in the order of the text. Fails if an allocation fails.
-    pub fn again_at_key(&self, alloc: Global, key: &str) -> Result<Vec<Location>, AllocError> {
+    pub fn later_locations_of_key(
+        &self,
+        alloc: Global,
+        key: &str,
+    ) -> Result<Vec<Location>, AllocError> {
         copied(alloc, self.keys_again.get(key))
     }
 
     /// Returns the later places of the name at a path, in the order of the text, if they are recorded. Fails if an
     /// allocation fails.
-    pub fn again_at_path(&self, alloc: Global, path: &str) -> Result<Vec<Location>, AllocError> {
+    pub fn later_locations_of_path(
+        &self,
+        alloc: Global,
+        path: &str,
+    ) -> Result<Vec<Location>, AllocError> {
         copied(alloc, self.others_again.get(path))
     }
 
@@ -254,14 +262,14 @@ impl Locations {
     }
 
     /// Returns the place of a field of a key of `target`, if it is known. Fails if an allocation fails.
-    pub fn at_field(
+    pub fn location_of_field(
         &self,
         alloc: Global,
         key: &str,
         field: &str,
     ) -> Result<Option<Location>, AllocError> {
         let path = self.path_of_field(alloc, key, field)?;
-        Ok(self.at_path(path.as_str()))
+        Ok(self.location_of_path(path.as_str()))
     }
 
     /// Records a place of a key of `target`.
@@ -277,7 +285,7 @@ impl Locations {
 
     /// Records a place of another name, unless it is the first one that is recorded.
     fn note_other(&mut self, alloc: Global, path: &str, at: Location) -> Result<(), AllocError> {
-        match self.at_path(path) {
+        match self.location_of_path(path) {
             Some(first) if first == at => Ok(()),
             Some(_) => note_again(&mut self.others_again, alloc, path, at),
             None => {

@@ -14,7 +14,9 @@ pub mod selection;
 pub mod tables;
 
 pub use declared::Declared;
-pub use selection::{Choice, Row, SelectError, TargetFacts, choose, select};
+pub use selection::{
+    Decision, DependencyDecision, SelectError, TargetFacts, decide_condition, select,
+};
 pub use tables::{
     Dependency, Kind, TargetKey, Targets, dependencies, keys_of, table_of, target_keys,
 };

@@ -64,11 +64,11 @@ fn at_part(
 
 impl Locations {
     /// Returns the place of a key of `target`, if it is known. Fails if an allocation fails.
-    pub fn located_key(&self, alloc: Global, key: &str) -> Result<Option<Location>, AllocError>
+    pub fn location_in_key(&self, alloc: Global, key: &str) -> Result<Option<Location>, AllocError>
         // The place lies in the text, and the text there spells the key.
         ensures { IfOk result (λ found. IfSome found (λ at. IsAtName (string_bytes self.now.text) key.now at)) }
     {
-        match self.at_key(key) {
+        match self.location_of_key(key) {
             Some(at) => at_name(alloc, self.text.as_str(), at, key),
             None => Ok(None),
         }
@@ -76,7 +76,7 @@ impl Locations {
 
     /// Returns the place of a part of a key of `target`, given as a span in the key, in bytes. Returns `None` if the
     /// key has no known place, or an escape spells more than the part. Fails if an allocation fails.
-    pub fn located_part(
+    pub fn location_of_part(
         &self,
         alloc: Global,
         key: &str,
@@ -86,7 +86,7 @@ impl Locations {
         ensures { IfOk result (λ found. IfSome found
             (λ at. IsAtPart (string_bytes self.now.text) key.now part at)) }
     {
-        match self.at_key(key) {
+        match self.location_of_key(key) {
             Some(whole) => at_part(alloc, self.text.as_str(), whole, key, part),
             None => Ok(None),
         }

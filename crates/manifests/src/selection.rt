@@ -6,10 +6,10 @@ ghost use Rattle.toml.specs.View.{table_view};
 ghost use Rattle.cargo_platform.specs.Trees.{condition_of};
 ghost use Rattle.cargo_platform.specs.Facts.{FactSet, IsTrueCondition};
 ghost use Rattle.partial_facts.specs.Conditions.{kleene_condition, residual_condition};
-ghost use Rattle.manifests.specs.Choosing.{choice_of, IfOpen};
+ghost use Rattle.manifests.specs.Choosing.{decided_truth, IfOpen};
 ghost use Rattle.manifests.specs.Entries.{entry_of};
 ghost use Rattle.manifests.specs.Tables.{row_of, rows_of, target_of};
-ghost use Rattle.manifests.specs.Selecting.{question_of, question_in, IsHostChoice, IsChoiceFor};
+ghost use Rattle.manifests.specs.Selecting.{question_of, question_in, IsHostDecision, IsDecisionFor};
 ghost use Rattle.manifests.specs.Selecting.{chosen_of, selected, AreChosen, AreRowsOfKey, AreRowsOfKeys, AreRows, Adds};
 ghost use Rattle.manifests.specs.Selecting.{IsErrorOn, IsErrorUnder};
 
@@ -35,7 +35,7 @@ pub struct TargetFacts<'a> {
 
 /// The selection of a dependency.
 #[derive(Drop)]
-pub enum Choice {
+pub enum Decision {
     /// The condition is true.
     Selected,
     /// The condition is false.
@@ -46,11 +46,11 @@ pub enum Choice {
 
 /// A dependency, and its selection.
 #[derive(Drop)]
-pub struct Row<'a> {
+pub struct DependencyDecision<'a> {
     /// The dependency.
     pub dependency: Dependency<'a>,
     /// The selection of the dependency.
-    pub choice: Choice,
+    pub decision: Decision,
 }
 
 /// The reason why a selection fails.
@@ -78,25 +78,25 @@ impl<'a> From<AllocError> for SelectError<'a> {
 
 /// Decides a condition for a target with this name and these known facts. Returns its residual if the truth value is
 /// not known. Fails if an allocation fails.
-pub fn choose<K: Knowledge>(
+pub fn decide_condition<K: Knowledge>(
     alloc: Global,
     platform: &Platform,
     name: &str,
     known: &K,
-) -> Result<Choice, AllocError>
-    ensures truth { IfOk result (λ choice. choice_of choice
+) -> Result<Decision, AllocError>
+    ensures truth { IfOk result (λ decision. decided_truth decision
         ≡ kleene_condition (Some name.now) (K.told known.now) (condition_of platform.now)) }
-    ensures left { IfOk result (λ choice. IfOpen choice (λ rest. rest
+    ensures left { IfOk result (λ decision. IfOpen decision (λ rest. rest
         ≡ residual_condition (Some name.now) (K.told known.now) (condition_of platform.now))) }
-    ensures as_true { (s : FactSet) → K.allows known.now s → IfOk result (λ choice. IfOpen choice (λ rest.
+    ensures as_true { (s : FactSet) → K.allows known.now s → IfOk result (λ decision. IfOpen decision (λ rest.
         IsTrueCondition name.now s rest ↔ IsTrueCondition name.now s (condition_of platform.now))) }
 {
     match decide_platform(platform, Some(name), known) {
-        Some(true) => Ok(Choice::Selected),
-        Some(false) => Ok(Choice::LeftOut),
+        Some(true) => Ok(Decision::Selected),
+        Some(false) => Ok(Decision::LeftOut),
         None => {
             let left = residual_platform(alloc, platform, Some(name), known)?;
-            Ok(Choice::Open(left))
+            Ok(Decision::Open(left))
         }
     }
 }
@@ -146,32 +146,37 @@ struct Query<'q, 'f> {
 }
 
 /// Decides a condition for the host. Without a host, the condition stays open as it is.
-fn choose_for_host(
+fn decide_for_host(
     alloc: Global,
     platform: &Platform,
     host: Option<KnownTarget>,
-) -> Result<Choice, AllocError>
-    ensures { IfOk result (IsHostChoice host (condition_of platform.now)) }
+) -> Result<Decision, AllocError>
+    ensures { IfOk result (IsHostDecision host (condition_of platform.now)) }
 {
     match host {
-        Some(host) => choose(alloc, platform, host.name(), &Complete(&host)),
-        None => Ok(Choice::Open(platform.clone(alloc)?)),
+        Some(host) => decide_condition(alloc, platform, host.name(), &Complete(&host)),
+        None => Ok(Decision::Open(platform.clone(alloc)?)),
     }
 }
 
 /// Decides a condition for what the dependencies of this kind are built for: the host for build-dependencies, and
 /// otherwise the target.
-fn choose_for(
+fn decide_for_kind(
     alloc: Global,
     platform: &Platform,
     kind: Kind,
     query: Query<'_, '_>,
-) -> Result<Choice, AllocError>
-    ensures { IfOk result (IsChoiceFor (question_in query.entry) kind (condition_of platform.now)) }
+) -> Result<Decision, AllocError>
+    ensures { IfOk result (IsDecisionFor (question_in query.entry) kind (condition_of platform.now)) }
 {
     match kind {
-        Kind::Normal | Kind::Development => choose(alloc, platform, query.target, query.known),
-        Kind::Build => choose_for_host(alloc, platform, query.host),
+        Kind::Normal | Kind::Development => decide_condition(
+            alloc,
+            platform,
+            query.target,
+            query.known,
+        ),
+        Kind::Build => decide_for_host(alloc, platform, query.host),
     }
 }
 
@@ -188,7 +193,7 @@ pub fn select<'a>(
     target: &str,
     known: &TargetFacts<'_>,
     host: Option<KnownTarget>,
-) -> Result<Vec<Row<'a>>, SelectError<'a>>
+) -> Result<Vec<DependencyDecision<'a>>, SelectError<'a>>
     ensures rows { IfOk result (λ rows. AreRows (question_of target.now known.now host) (table_view manifest.now)
         (map chosen_of rows.items)) }
     ensures error { IfErr result (IsErrorUnder (target_of (table_view manifest.now))) }
@@ -210,16 +215,19 @@ pub fn select<'a>(
 }
 
 /// Returns the rows of the tables outside `target`.
-fn outside<'a>(alloc: Global, manifest: &'a Table) -> Result<Vec<Row<'a>>, AllocError>
+fn outside<'a>(
+    alloc: Global,
+    manifest: &'a Table,
+) -> Result<Vec<DependencyDecision<'a>>, AllocError>
     ensures { IfOk result (λ rows. map chosen_of rows.items
         ≡ map selected (rows_of None (table_view manifest.now))) }
 {
     let mut rows = Vec::new(alloc);
     let dependencies = dependencies(alloc, manifest, None)?;
     'dependencies: for dependency in &dependencies {
-        rows.push(Row {
+        rows.push(DependencyDecision {
             dependency: *dependency,
-            choice: Choice::Selected,
+            decision: Decision::Selected,
         })?;
     }
     Ok(rows)
@@ -230,7 +238,7 @@ fn add_keys<'a>(
     alloc: Global,
     keys: &[TargetKey<'a>],
     query: Query<'_, '_>,
-    rows: &mut Vec<Row<'a>>,
+    rows: &mut Vec<DependencyDecision<'a>>,
 ) -> Result<(), SelectError<'a>>
     ensures rows { OnOk result (Adds (AreRowsOfKeys (question_in query.entry) (map entry_of keys.now))
         rows.old.items rows.new.items) }
@@ -247,7 +255,7 @@ fn add_rows<'a>(
     alloc: Global,
     key: TargetKey<'a>,
     query: Query<'_, '_>,
-    rows: &mut Vec<Row<'a>>,
+    rows: &mut Vec<DependencyDecision<'a>>,
 ) -> Result<(), SelectError<'a>>
     ensures rows { OnOk result (Adds (AreRowsOfKey (question_in query.entry) (entry_of key.entry))
         rows.old.items rows.new.items) }
@@ -272,16 +280,16 @@ fn add_chosen<'a>(
     condition: &Platform,
     dependencies: &[Dependency<'a>],
     query: Query<'_, '_>,
-    rows: &mut Vec<Row<'a>>,
+    rows: &mut Vec<DependencyDecision<'a>>,
 ) -> Result<(), AllocError>
     ensures { OnOk result (Adds (AreChosen (question_in query.entry) (condition_of condition.now)
         (map row_of dependencies.now)) rows.old.items rows.new.items) }
 {
     'dependencies: for dependency in dependencies {
-        let choice = choose_for(alloc, condition, dependency.kind, query)?;
-        rows.push(Row {
+        let decision = decide_for_kind(alloc, condition, dependency.kind, query)?;
+        rows.push(DependencyDecision {
             dependency: *dependency,
-            choice,
+            decision,
         })?;
     }
     Ok(())

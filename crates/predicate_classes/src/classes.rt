@@ -20,7 +20,7 @@ use crate::rustc_names::{
     OTHER_WORDS, PANIC_VALUES, UNSTABLE_KEYS, UNSTABLE_NAMES, is_target_feature, pair,
 };
 use cargo_platform::{Cfg, Platform};
-use known_targets::{KnownTarget, having, is_value};
+use known_targets::{KnownTarget, is_value, targets_with_fact};
 use partial_facts::names::is_among;
 use std::alloc::{AllocError, Global};
 use strsim::osa_distance;
@@ -158,7 +158,7 @@ impl Category {
 fn is_had(c: &Cfg) -> bool
     ensures { result ≡ is_had table_keys (value_of c.now) }
 {
-    !having(c).is_empty()
+    !targets_with_fact(c).is_empty()
 }
 
 /// Returns whether some known target has this value of the key. Fails if memory is refused.

@@ -5,7 +5,7 @@ use crate::selected::{
 };
 use cargo_platform::{Cfg, Platform};
 use known_targets::conditions::{SingleFactConditions, covering};
-use known_targets::{KnownFact, KnownTarget, TargetSet, having};
+use known_targets::{KnownFact, KnownTarget, TargetSet, targets_with_fact};
 use std::alloc::{AllocError, Global};
 
 /// The facts that conditions are built from: the candidate facts, and the facts that occur in the conditions of the
@@ -20,7 +20,7 @@ pub enum ConditionSearch<'a> {
 fn known_facts(alloc: Global, values: Vec<Cfg>) -> Result<Vec<KnownFact>, AllocError> {
     let mut facts = Vec::new(alloc);
     for fact in values {
-        let targets = having(&fact);
+        let targets = targets_with_fact(&fact);
         facts.push(KnownFact { fact, targets })?;
     }
     Ok(facts)

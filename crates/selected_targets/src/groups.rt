@@ -3,7 +3,7 @@
 use cargo_metadata::Metadata;
 use cargo_metadata::graphs::Linked;
 use cargo_platform::{Platform, ReadError};
-use key_answers::answer::{Refusal, unusable, unusable_words};
+use key_answers::answer::{QueryError, argument_error, file_error};
 use key_answers::printing::shown_name;
 use known_targets::{COUNT, KnownTarget, TargetSet};
 use std::alloc::{AllocError, Global};
@@ -28,7 +28,12 @@ fn no_target(alloc: Global, file: &str, name: &str) -> Result<String, AllocError
 }
 
 /// Returns the index of the target with this name.
-fn place_of(alloc: Global, file: &str, table: &TargetTable, name: &str) -> Result<usize, Refusal> {
+fn place_of(
+    alloc: Global,
+    file: &str,
+    table: &TargetTable,
+    name: &str,
+) -> Result<usize, QueryError> {
     let rows = table.rows();
     for i in 0..rows.len() {
         if rows[i].name() == name {
@@ -36,7 +41,7 @@ fn place_of(alloc: Global, file: &str, table: &TargetTable, name: &str) -> Resul
         }
     }
     let text = no_target(alloc, file, name)?;
-    Err(unusable_words(alloc, text.as_str()))
+    Err(argument_error(alloc, text.as_str()))
 }
 
 /// Returns for each target whether it has one of these names. If there are no names, all targets are selected.
@@ -45,7 +50,7 @@ fn selected_of(
     file: &str,
     table: &TargetTable,
     names: &[&str],
-) -> Result<Vec<bool>, Refusal> {
+) -> Result<Vec<bool>, QueryError> {
     let mut is_selected = vec![in alloc; names.is_empty(); table.rows().len()]?;
     for name in names {
         let place = place_of(alloc, file, table, name)?;
@@ -69,7 +74,7 @@ impl<'a> TableSelection<'a> {
         table: &'a TargetTable,
         names: &[&str],
         host: Option<&str>,
-    ) -> Result<TableSelection<'a>, Refusal> {
+    ) -> Result<TableSelection<'a>, QueryError> {
         Ok(TableSelection {
             file,
             table,
@@ -235,16 +240,16 @@ fn numbers_of(
 }
 
 /// Returns the refusal of a file whose targets form too many groups.
-fn too_many(alloc: Global, file: &str, count: usize) -> Result<Refusal, AllocError> {
+fn too_many(alloc: Global, file: &str, count: usize) -> Result<QueryError, AllocError> {
     let reason = format!(in alloc;
         "the conditions of the graph tell {count} groups of its targets apart, and {COUNT} are the most"
     )?;
-    Ok(unusable(alloc, file, reason.as_str()))
+    Ok(file_error(alloc, file, reason.as_str()))
 }
 
 /// Returns for each target the known target that represents its group. Fails if there are more groups than known
 /// targets.
-fn places_of(alloc: Global, file: &str, numbers: &Numbers) -> Result<Vec<KnownTarget>, Refusal> {
+fn places_of(alloc: Global, file: &str, numbers: &Numbers) -> Result<Vec<KnownTarget>, QueryError> {
     let all: Vec<KnownTarget> = TargetSet::all().iter().collect(alloc)?;
     let mut places = Vec::new(alloc);
     for number in &numbers.of {
@@ -278,12 +283,12 @@ pub struct Groups<'a> {
 
 /// Groups the targets of a file by the conditions of a graph, and sets the targets of the graph's dependencies
 /// accordingly. Fails if there are more groups than known targets, or if memory is refused.
-pub fn grouped<'a>(
+pub fn group_targets<'a>(
     alloc: Global,
     selection: TableSelection<'a>,
     metadata: &Metadata<'_>,
     linked: &mut Linked<'_>,
-) -> Result<Groups<'a>, Refusal> {
+) -> Result<Groups<'a>, QueryError> {
     let mut conditions = conditions_of(alloc, selection.table, metadata)?;
     let numbers = numbers_of(alloc, &selection.is_selected, &conditions)?;
     let places = places_of(alloc, selection.file, &numbers)?;

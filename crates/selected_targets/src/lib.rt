@@ -7,5 +7,5 @@ mod groups;
 mod selected;
 
 pub use condition_search::ConditionSearch;
-pub use groups::{Groups, TableSelection, grouped};
+pub use groups::{Groups, TableSelection, group_targets};
 pub use selected::Selection;

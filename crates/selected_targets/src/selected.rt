@@ -5,7 +5,7 @@
 use crate::groups::{Groups, is_at};
 use cargo_platform::{Cfg, CfgExpr, Platform};
 use known_targets::conditions::SingleFactConditions;
-use known_targets::{KnownTarget, TargetSet, having};
+use known_targets::{KnownTarget, TargetSet, targets_with_fact};
 use std::alloc::{AllocError, Global};
 use target_tables::TargetRow;
 
@@ -144,7 +144,7 @@ impl Fact {
     pub fn of(alloc: Global, selected: &Selected<'_>, fact: Cfg) -> Result<Fact, AllocError> {
         let copy = fact.clone(alloc)?;
         let condition = Platform::Cfg(CfgExpr::Value(copy));
-        let known = having(&fact);
+        let known = targets_with_fact(&fact);
         let mut at = Vec::new(alloc);
         for target in &selected.targets {
             at.push(match target.row {

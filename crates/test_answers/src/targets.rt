@@ -4,7 +4,7 @@ use crate::row_facts;
 use cargo_platform::{Cfg, CfgExpr, FactIndex, Facts, Platform};
 use known_targets::{
     COUNT, KnownFact, KnownTarget, OpenTarget, RUSTC_VERSION, TargetSet, all_facts,
-    certainly_matching, classes, having, matching, possibly_matching,
+    certainly_matching, classes, matching, possibly_matching, targets_with_fact,
 };
 use partial_facts::decide_platform;
 use std::alloc::{AllocError, Global};
@@ -207,7 +207,7 @@ fn times(facts: &[KnownFact], fact: &Cfg) -> usize {
 /// Returns the number of targets that have a fact, which the list of all facts has once or not at all.
 fn had(alloc: Global, word_of_fact: &str) -> Result<String, Fault> {
     let fact = test_rows::made_facts::value(alloc, word_of_fact)?;
-    let count = count(having(&fact))?;
+    let count = count(targets_with_fact(&fact))?;
     if times(&all_facts(alloc)?, &fact) != usize::from(count > 0) {
         return Ok(word(alloc, "the list of all facts says otherwise")?);
     }
@@ -221,7 +221,7 @@ fn facts_of(alloc: Global, name: &str) -> Result<String, Fault> {
     };
     let facts = target.facts(alloc)?;
     for fact in &facts {
-        if !target.holds(fact) || !having(fact).contains(target) {
+        if !target.holds(fact) || !targets_with_fact(fact).contains(target) {
             return Ok(word(alloc, "one of its facts is none of it")?);
         }
     }
@@ -302,7 +302,7 @@ fn is_found_alone(alloc: Global, name: &str) -> Result<bool, AllocError> {
 fn each_fact(alloc: Global) -> Result<String, Fault> {
     let facts = all_facts(alloc)?;
     for known in &facts {
-        let set = having(&known.fact);
+        let set = targets_with_fact(&known.fact);
         if times(&facts, &known.fact) != 1 || !known.targets.equals(set) || set.is_empty() {
             return Ok(word(alloc, "otherwise at a fact")?);
         }

@@ -1,10 +1,10 @@
 //! The packages and folders that arguments choose or leave out, by Cargo's book ("Package ID Specifications": a name,
 //! with a version or without; `cargo build --package`: globs) and by the rules of `.gitignore` for paths.
 
-use crate::documents::{Documents, real_path};
+use crate::documents::{ManifestCache, real_path};
 use crate::finding::{Found, ManifestSelection, root_of};
 use crate::lint_inheritance::is_inherited;
-use crate::manifests::{folder_of, package_name, shorter, table_in, text_in};
+use crate::manifests::{folder_of, package_name, simplified_path, table_in, text_in};
 use crate::patterns::{Pattern, PatternError, is_glob, names_of};
 use cargo_platform::shown_text;
 use std::alloc::{AllocError, Global};
@@ -42,7 +42,7 @@ fn shared_version(workspace: Option<&Table>) -> Option<&str> {
 /// Returns the version that packages inherit from the root to which the manifest at a path belongs.
 fn inherited_version<R: Files + Env + AllocGlobal>(
     rt: &R,
-    documents: &mut Documents,
+    documents: &mut ManifestCache,
     file: &str,
 ) -> Result<String, AllocError> {
     let root = root_of(rt, documents, file)?;
@@ -57,7 +57,7 @@ fn inherited_version<R: Files + Env + AllocGlobal>(
 /// Returns the name and the version of the package of the manifest at a path, and whether it inherits the version.
 fn named_at<R: Files + AllocGlobal>(
     rt: &R,
-    documents: &mut Documents,
+    documents: &mut ManifestCache,
     file: &str,
 ) -> Result<(String, String, bool), AllocError> {
     let alloc = rt.alloc();
@@ -75,7 +75,7 @@ fn named_at<R: Files + AllocGlobal>(
 /// Returns the manifest at a path as a candidate.
 fn candidate_at<R: Files + Env + AllocGlobal>(
     rt: &R,
-    documents: &mut Documents,
+    documents: &mut ManifestCache,
     file: &str,
 ) -> Result<Candidate, AllocError> {
     let (name, own, inherits) = named_at(rt, documents, file)?;
@@ -95,7 +95,7 @@ fn candidate_at<R: Files + Env + AllocGlobal>(
 /// Returns the manifests at these paths as candidates.
 fn candidates_at<R: Files + Env + AllocGlobal>(
     rt: &R,
-    documents: &mut Documents,
+    documents: &mut ManifestCache,
     files: &[String],
 ) -> Result<Vec<Candidate>, AllocError> {
     let mut found = Vec::new(rt.alloc());
@@ -177,7 +177,7 @@ fn means_path(alloc: Global, text: &str, candidate: &Candidate) -> Result<bool, 
     } else {
         candidate.file.as_str()
     };
-    let path = shorter(alloc, if is_folder { folder_of(path) } else { path })?;
+    let path = simplified_path(alloc, if is_folder { folder_of(path) } else { path })?;
     if !text.contains('/') {
         return matches_some_name(alloc, text, path.as_str());
     }
@@ -296,7 +296,7 @@ fn add_unneeded(
 /// Fails only if an allocation fails.
 pub fn choose<R: Files + Env + AllocGlobal>(
     rt: &R,
-    documents: &mut Documents,
+    documents: &mut ManifestCache,
     selection: &ManifestSelection,
     found: &mut Found,
 ) -> Result<(), AllocError> {

@@ -166,16 +166,16 @@ pub(crate) fn real_path<R: Files + AllocGlobal>(rt: &R, file: &str) -> Result<St
 
 /// The manifests that have been read, by the real paths of their files.
 #[derive(Drop)]
-pub struct Documents {
+pub struct ManifestCache {
     /// The maximum number of bytes of a manifest.
     pub limit: u64,
     files: BTreeMap<String, ReadFile>,
 }
 
-impl Documents {
+impl ManifestCache {
     /// Returns no manifests. Those of more bytes than `limit` will not be used.
-    pub fn new(alloc: Global, limit: u64) -> Documents {
-        Documents {
+    pub fn new(alloc: Global, limit: u64) -> ManifestCache {
+        ManifestCache {
             limit,
             files: BTreeMap::new(alloc),
         }

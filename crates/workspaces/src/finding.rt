@@ -1,10 +1,10 @@
 //! The manifests that arguments select: those that are named, or the one in or above the current folder.
 
 use crate::choosing::choose;
-use crate::documents::{Documents, RootPlace, real_path};
+use crate::documents::{ManifestCache, RootPlace, real_path};
 use crate::manifests::{
-    MANIFEST, folder_of, from_above, if_successful, inside, is_file, is_folder, manifest_inside,
-    shorter, simplified_from, table_of,
+    MANIFEST, folder_of, from_above, if_successful, is_file, is_folder, join_manifest_path,
+    join_path, simplified_from, simplified_path, table_of,
 };
 use crate::members::members_of;
 use input_limits::{INPUT, InputError};
@@ -83,7 +83,7 @@ fn file_of<R: Files + AllocGlobal>(rt: &R, path: &str) -> Result<String, AllocEr
 /// Fails only if an allocation fails.
 pub fn put_text<R: Files + AllocGlobal>(
     rt: &R,
-    documents: &mut Documents,
+    documents: &mut ManifestCache,
     path: &str,
     text: String,
 ) -> Result<String, AllocError> {
@@ -96,13 +96,13 @@ pub fn put_text<R: Files + AllocGlobal>(
 /// Returns the manifest of the root, if a manifest is that of a root or names its root.
 fn root_by_manifest<R: Files + AllocGlobal>(
     rt: &R,
-    documents: &mut Documents,
+    documents: &mut ManifestCache,
     file: &str,
 ) -> Result<Option<String>, AllocError> {
     match documents.root_place(rt, file)? {
         Some(RootPlace::Here) => Ok(Some(String::from_str(rt.alloc(), file)?)),
         Some(RootPlace::At(path)) => {
-            let root = manifest_inside(rt.alloc(), folder_of(file), path.as_str())?;
+            let root = join_manifest_path(rt.alloc(), folder_of(file), path.as_str())?;
             Ok(Some(root))
         }
         Some(RootPlace::Unsaid) | None => Ok(None),
@@ -112,7 +112,7 @@ fn root_by_manifest<R: Files + AllocGlobal>(
 /// Returns whether a manifest has a table `workspace`.
 fn is_root<R: Files + AllocGlobal>(
     rt: &R,
-    documents: &mut Documents,
+    documents: &mut ManifestCache,
     file: &str,
 ) -> Result<bool, AllocError> {
     match documents.root_place(rt, file)? {
@@ -124,20 +124,20 @@ fn is_root<R: Files + AllocGlobal>(
 /// Returns the path of the manifest `count` folders above a folder.
 fn manifest_over(alloc: Global, folder: &str, count: usize) -> Result<String, AllocError> {
     let file = from_above(alloc, count, MANIFEST)?;
-    inside(alloc, folder, file.as_str())
+    join_path(alloc, folder, file.as_str())
 }
 
 /// Returns the nearest manifest above a folder that has a table `workspace`.
 fn root_above<R: Files + Env + AllocGlobal>(
     rt: &R,
-    documents: &mut Documents,
+    documents: &mut ManifestCache,
     folder: &str,
 ) -> Result<Option<String>, AllocError> {
     let depth = current_folder_depth(rt)?.saturating_add(folder.split('/').count());
     for count in 1..=depth {
         let root = manifest_over(rt.alloc(), folder, count)?;
         if is_root(rt, documents, root.as_str())? {
-            return Ok(Some(shorter(rt.alloc(), root.as_str())?));
+            return Ok(Some(simplified_path(rt.alloc(), root.as_str())?));
         }
     }
     Ok(None)
@@ -150,7 +150,7 @@ fn root_above<R: Files + Env + AllocGlobal>(
 /// Fails only if an allocation fails.
 pub fn root_of<R: Files + Env + AllocGlobal>(
     rt: &R,
-    documents: &mut Documents,
+    documents: &mut ManifestCache,
     file: &str,
 ) -> Result<String, AllocError> {
     if let Some(root) = root_by_manifest(rt, documents, file)? {
@@ -165,7 +165,7 @@ pub fn root_of<R: Files + Env + AllocGlobal>(
 /// Returns the manifest itself or, if all members or some packages are selected, that of its workspace's root.
 fn first_of<R: Files + Env + AllocGlobal>(
     rt: &R,
-    documents: &mut Documents,
+    documents: &mut ManifestCache,
     selection: &ManifestSelection,
     file: &str,
 ) -> Result<String, AllocError> {
@@ -214,14 +214,14 @@ fn add_error<R: Files + AllocGlobal>(
 /// Adds the manifests of a root's members, but not the root's own.
 fn add_members<R: Files + AllocGlobal + Clone + Drop>(
     rt: &R,
-    documents: &mut Documents,
+    documents: &mut ManifestCache,
     file: &str,
     found: &mut Found,
 ) -> Result<(), AllocError> {
     let mut errors = Vec::new(rt.alloc());
     for folder in &members_of(rt, documents, file, &mut errors)? {
         if !folder.is_empty() {
-            let member = manifest_inside(rt.alloc(), folder_of(file), folder.as_str())?;
+            let member = join_manifest_path(rt.alloc(), folder_of(file), folder.as_str())?;
             found.paths.push(member)?;
         }
     }
@@ -234,7 +234,7 @@ fn add_members<R: Files + AllocGlobal + Clone + Drop>(
 /// Adds a manifest and, if it is that of a root, those of the root's members.
 fn add_meant<R: Files + Env + AllocGlobal + Clone + Drop>(
     rt: &R,
-    documents: &mut Documents,
+    documents: &mut ManifestCache,
     selection: &ManifestSelection,
     file: &str,
     found: &mut Found,
@@ -254,7 +254,7 @@ fn add_meant<R: Files + Env + AllocGlobal + Clone + Drop>(
 /// Adds these manifests, and those of the members of roots.
 fn add_all<R: Files + Env + AllocGlobal + Clone + Drop>(
     rt: &R,
-    documents: &mut Documents,
+    documents: &mut ManifestCache,
     selection: &ManifestSelection,
     named: &[String],
     found: &mut Found,
@@ -270,7 +270,7 @@ fn add_all<R: Files + Env + AllocGlobal + Clone + Drop>(
 /// root's members. If there is none, this is an error.
 fn add_at_hand<R: Files + Env + AllocGlobal + Clone + Drop>(
     rt: &R,
-    documents: &mut Documents,
+    documents: &mut ManifestCache,
     selection: &ManifestSelection,
     found: &mut Found,
 ) -> Result<(), AllocError> {
@@ -328,7 +328,7 @@ fn once_from_here<R: Files + Env + AllocGlobal>(
 /// Fails only if an allocation fails.
 pub fn find<R: Files + Env + AllocGlobal + Clone + Drop>(
     rt: &R,
-    documents: &mut Documents,
+    documents: &mut ManifestCache,
     selection: &ManifestSelection,
 ) -> Result<Found, AllocError> {
     let alloc = rt.alloc();

@@ -3,7 +3,7 @@
 use crate::components::{Component, Name};
 use crate::documents::real_path;
 use crate::glob_matching::Piece;
-use crate::manifests::{if_successful, inside, is_folder};
+use crate::manifests::{if_successful, is_folder, join_path};
 use crate::patterns::{Pattern, is_glob, plain_components};
 use std::alloc::{AllocError, Global};
 use std::fs::{self, DirEntry};
@@ -48,7 +48,7 @@ fn names_below<R: Files + AllocGlobal + Clone + Drop>(
     root: &str,
     path: &str,
 ) -> Result<Vec<String>, AllocError> {
-    let folder = inside(rt.alloc(), root, path)?;
+    let folder = join_path(rt.alloc(), root, path)?;
     names_in(rt, folder.as_str())
 }
 
@@ -58,7 +58,7 @@ fn is_own_folder<R: Files + AllocGlobal>(
     root: &str,
     path: &str,
 ) -> Result<bool, AllocError> {
-    let place = inside(rt.alloc(), root, path)?;
+    let place = join_path(rt.alloc(), root, path)?;
     match if_successful(fs::symlink_metadata(rt, place.as_str()))? {
         Some(found) => Ok(found.is_dir()),
         None => Ok(false),
@@ -71,7 +71,7 @@ fn is_folder_below<R: Files + AllocGlobal>(
     root: &str,
     path: &str,
 ) -> Result<bool, AllocError> {
-    let place = inside(rt.alloc(), root, path)?;
+    let place = join_path(rt.alloc(), root, path)?;
     is_folder(rt, place.as_str())
 }
 
@@ -81,7 +81,7 @@ fn real_folder<R: Files + AllocGlobal>(
     root: &str,
     path: &str,
 ) -> Result<String, AllocError> {
-    let place = inside(rt.alloc(), root, path)?;
+    let place = join_path(rt.alloc(), root, path)?;
     let place = if place.as_str().is_empty() {
         "."
     } else {
@@ -115,7 +115,7 @@ fn add_any<R: Files + AllocGlobal>(
     name: &str,
     found: &mut Vec<String>,
 ) -> Result<(), AllocError> {
-    let lower = inside(rt.alloc(), path, name)?;
+    let lower = join_path(rt.alloc(), path, name)?;
     if !is_folder_below(rt, root, lower.as_str())? {
         return Ok(());
     }
@@ -154,7 +154,7 @@ fn add_lower<R: Files + AllocGlobal>(
     name: &str,
     found: &mut Vec<String>,
 ) -> Result<(), AllocError> {
-    let lower = inside(rt.alloc(), path, name)?;
+    let lower = join_path(rt.alloc(), path, name)?;
     if is_folder_below(rt, root, lower.as_str())? {
         found.push(lower)?;
     }

@@ -3,7 +3,7 @@
 ghost use Rattle.std.specs.Prelude.{IfOk};
 ghost use Rattle.std.specs.Option.{option_map};
 ghost use Rattle.toml.specs.View.{table_view};
-ghost use Rattle.workspaces.specs.Documents.{SpellsTable};
+ghost use Rattle.workspaces.specs.ManifestCache.{SpellsTable};
 
 use crate::patterns::plain_components;
 use input_limits::strip_byte_order_mark;
@@ -20,7 +20,7 @@ pub const MANIFEST: &str = "Cargo.toml";
 /// current one.
 ///
 /// Fails only if an allocation fails.
-pub fn inside(alloc: Global, folder: &str, path: &str) -> Result<String, AllocError> {
+pub fn join_path(alloc: Global, folder: &str, path: &str) -> Result<String, AllocError> {
     if folder.is_empty() || path.starts_with('/') {
         return String::from_str(alloc, path);
     }
@@ -31,9 +31,9 @@ pub fn inside(alloc: Global, folder: &str, path: &str) -> Result<String, AllocEr
 }
 
 /// Returns the path of the manifest in the folder to which a path leads from another folder.
-pub fn manifest_inside(alloc: Global, folder: &str, path: &str) -> Result<String, AllocError> {
-    let folder = inside(alloc, folder, path)?;
-    inside(alloc, folder.as_str(), MANIFEST)
+pub fn join_manifest_path(alloc: Global, folder: &str, path: &str) -> Result<String, AllocError> {
+    let folder = join_path(alloc, folder, path)?;
+    join_path(alloc, folder.as_str(), MANIFEST)
 }
 
 /// Returns the path of a name in the folder that is `count` folders above the current one.
@@ -47,7 +47,7 @@ pub fn from_above(alloc: Global, count: usize, path: &str) -> Result<String, All
 }
 
 /// Returns the path without the components that lead nowhere: `.`, empty ones, and `..` with the one before it.
-pub fn shorter(alloc: Global, path: &str) -> Result<String, AllocError> {
+pub fn simplified_path(alloc: Global, path: &str) -> Result<String, AllocError> {
     let mut text = String::new(alloc);
     for component in &plain_components(alloc, path)? {
         if !text.is_empty() || path.starts_with('/') {

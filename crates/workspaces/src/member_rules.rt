@@ -8,7 +8,7 @@ use std::alloc::{AllocError, Global};
 
 /// The rules by which a manifest selects the members of its workspace.
 #[derive(Drop)]
-pub struct Rules {
+pub struct MemberRules {
     /// The globs of `members`.
     pub members: Vec<Pattern>,
     /// For each path of `exclude`, what is in or below it.
@@ -24,7 +24,7 @@ fn holds_without(first: bool, second: bool) -> bool
     first && !second
 }
 
-impl Rules {
+impl MemberRules {
     /// Returns whether the folder is excluded. Fails only if an allocation fails.
     pub fn exclude(&self, alloc: Global, path: &[Vec<char>]) -> Result<bool, AllocError>
         ensures { IfOk result (λ b. IsTrue b ↔ IsExcluded self.now path.now) }

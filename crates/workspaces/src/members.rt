@@ -2,10 +2,12 @@
 //! dependencies lead.
 
 use crate::dependencies::{PathDependency, path_dependencies};
-use crate::documents::{Document, Documents, real_path};
+use crate::documents::{Document, ManifestCache, real_path};
 use crate::folders::candidates;
-use crate::manifests::{folder_of, inside, is_file, manifest_inside, shorter, table_in, texts_in};
-use crate::member_rules::Rules;
+use crate::manifests::{
+    folder_of, is_file, join_manifest_path, join_path, simplified_path, table_in, texts_in,
+};
+use crate::member_rules::MemberRules;
 use crate::patterns::{Fault, Pattern, PatternError, names_of};
 use cargo_platform::shown_text;
 use input_limits::InputError;
@@ -51,7 +53,7 @@ fn from_root(alloc: Global, root: &str, path: &str) -> Result<String, AllocError
     if !path.starts_with('/') {
         return String::from_str(alloc, path);
     }
-    let path = shorter(alloc, path)?;
+    let path = simplified_path(alloc, path)?;
     match below(root, path.as_str()) {
         Some(path) => String::from_str(alloc, path),
         None => Ok(path),
@@ -118,8 +120,8 @@ fn rules_of(
     texts: &[String],
     excluded: &[String],
     unusable: &mut Vec<InputError>,
-) -> Result<Rules, AllocError> {
-    Ok(Rules {
+) -> Result<MemberRules, AllocError> {
+    Ok(MemberRules {
         members: globs_of(alloc, file, texts, unusable)?,
         excluded: all_below(alloc, excluded)?,
         named: all_below(alloc, texts)?,
@@ -143,10 +145,10 @@ fn path_from_root(
 ) -> Result<String, AllocError> {
     let path = from_root(alloc, root, dependency.path)?;
     if dependency.is_of_root || dependency.path.starts_with('/') {
-        return shorter(alloc, path.as_str());
+        return simplified_path(alloc, path.as_str());
     }
-    let path = inside(alloc, folder, path.as_str())?;
-    shorter(alloc, path.as_str())
+    let path = join_path(alloc, folder, path.as_str())?;
+    simplified_path(alloc, path.as_str())
 }
 
 /// Returns whether a path leads out of the root's folder.
@@ -159,7 +161,7 @@ fn manifest_of(alloc: Global, root: &str, folder: &str) -> Result<String, AllocE
     if folder.is_empty() {
         return String::from_str(alloc, root);
     }
-    manifest_inside(alloc, folder_of(root), folder)
+    join_manifest_path(alloc, folder_of(root), folder)
 }
 
 /// The members of a workspace that have been found so far.
@@ -167,7 +169,7 @@ fn manifest_of(alloc: Global, root: &str, folder: &str) -> Result<String, AllocE
 struct Members {
     /// The real path of the root's folder.
     root: String,
-    rules: Rules,
+    rules: MemberRules,
     /// `workspace.dependencies` of the root.
     shared: Option<Table>,
     /// Their folders, from the root on.
@@ -262,7 +264,7 @@ impl Members {
     fn follow<R: Files + AllocGlobal>(
         &mut self,
         rt: &R,
-        documents: &mut Documents,
+        documents: &mut ManifestCache,
         root: &str,
     ) -> Result<(), AllocError> {
         for _ in 0..u64::MAX {
@@ -279,7 +281,7 @@ impl Members {
     fn follow_one<R: Files + AllocGlobal>(
         &mut self,
         rt: &R,
-        documents: &mut Documents,
+        documents: &mut ManifestCache,
         root: &str,
         folder: &str,
     ) -> Result<(), AllocError> {
@@ -396,7 +398,7 @@ fn members_by_globs<R: Files + AllocGlobal + Clone + Drop>(
 /// Fails only if an allocation fails.
 pub fn members_of<R: Files + AllocGlobal + Clone + Drop>(
     rt: &R,
-    documents: &mut Documents,
+    documents: &mut ManifestCache,
     file: &str,
     unusable: &mut Vec<InputError>,
 ) -> Result<BTreeSet<String>, AllocError> {

@@ -168,7 +168,7 @@ fn packages_of_a_graph_have_their_targets() {
     }
     assert_eq!(graph(document, Some("x")).expect_err("an error").kind(), ErrorKind::UnknownTarget);
     let error = graph(r#"{"version": 1}"#, None).expect_err("an error");
-    assert_eq!((error.kind(), error.to_string().as_str()), (ErrorKind::InvalidDocument, "packages: a list is wanted"));
+    assert_eq!((error.kind(), error.to_string().as_str()), (ErrorKind::InvalidDocument, "packages: expected an array"));
     assert_eq!((error.span(), error.snippet()), (None, None));
 }
 

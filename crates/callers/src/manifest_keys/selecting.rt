@@ -6,7 +6,7 @@ ghost use Rattle.partial_facts.specs.Conditions.{kleene_condition};
 
 use cargo_platform::Platform;
 use known_targets::KnownTarget;
-use manifests::{Choice, SelectError, TargetFacts, choose, select};
+use manifests::{Decision, SelectError, TargetFacts, decide_condition, select};
 use partial_facts::Knowledge;
 use std::alloc::{AllocError, Global};
 use toml::Table;
@@ -22,9 +22,9 @@ pub fn may_leave_out<K: Knowledge>(
     ensures { IfOk result (λ left. IsTrue left
         ↔ (kleene_condition (Some target.now) (K.told known.now) (condition_of platform.now) ≡ Some false)) }
 {
-    match choose(alloc, platform, target, known)? {
-        Choice::LeftOut => Ok(true),
-        Choice::Selected | Choice::Open(_) => Ok(false),
+    match decide_condition(alloc, platform, target, known)? {
+        Decision::LeftOut => Ok(true),
+        Decision::Selected | Decision::Open(_) => Ok(false),
     }
 }
 
@@ -42,7 +42,7 @@ pub fn selected_names<'a>(
     };
     let mut names = Vec::new(alloc);
     for row in &select(alloc, manifest, target.name(), &known, Some(target))? {
-        if let Choice::Selected = row.choice {
+        if let Decision::Selected = row.decision {
             names.push(row.dependency.name).map_err(AllocError::from)?;
         }
     }

@@ -5,9 +5,9 @@ use Rattle.serde_json.specs.Find.{get}
 use Rattle.serde_json.specs.View.{view}
 use Rattle.cargo_metadata.specs.Fields.{fits}
 use Rattle.cargo_metadata.specs.Rows.{AreRowsAt}
-use Rattle.cargo_metadata.specs.declared.refusals.Wanted.{Wanted}
-use Rattle.cargo_metadata.specs.declared.refusals.Wanted.TheVariants as wanted
-use Rattle.cargo_metadata.specs.declared.refusals.Wrong.{Wrong}
+use Rattle.cargo_metadata.specs.declared.refusals.ExpectedValue.{ExpectedValue}
+use Rattle.cargo_metadata.specs.declared.refusals.ExpectedValue.TheVariants as expected
+use Rattle.cargo_metadata.specs.declared.refusals.FieldError.{FieldError}
 use Rattle.cargo_metadata.proofs.Elements.{list_fits, wrong_second}
 use Rattle.declared_features.specs.Documents.{IsDeclared}
 use Rattle.declared_features.specs.Refusals.{IsInManifest}
@@ -17,13 +17,13 @@ use Rattle.declared_features.proofs.manifests.manifest_of.Goals as goal
 
 -- the error in the features, after dependencies that were read
 lacks_features : (d : Data) (declared : List Declared) → AreRowsAt IsDeclared (codes "dependencies") d declared
-    → fits wanted.Features (get (codes "features") d) ≡ false → (wrong : Wrong) → wrong.field.now ≡ codes "features"
-    → wrong.wanted ≡ wanted.Features → IsInManifest d (in_manifest.Field wrong)
+    → fits expected.Features (get (codes "features") d) ≡ false → (wrong : FieldError) → wrong.field.now ≡ codes "features"
+    → wrong.expected ≡ expected.Features → IsInManifest d (in_manifest.Field wrong)
 lacks_features d declared rows misfits wrong field what = (
-  wrong_second (codes "dependencies", wanted.List) (codes "features") wanted.Features [] d wrong
+  wrong_second (codes "dependencies", expected.List) (codes "features") expected.Features [] d wrong
       (list_fits (codes "dependencies") d rows.elements rows.stand)
-      (ap (λ (n : List ℕ). fits wrong.wanted (get n d)) field
-      ∙ ap (λ (w : Wanted). fits w (get (codes "features") d)) what ∙ misfits)
+      (ap (λ (n : List ℕ). fits wrong.expected (get n d)) field
+      ∙ ap (λ (w : ExpectedValue). fits w (get (codes "features") d)) what ∙ misfits)
       (field, what),
   λ e. (declared, rows),
 )

@@ -8,8 +8,8 @@ pub returns-then-is_of_key : goal.returns-then-is_of_key
 returns-then-is_of_key c =
     let single : c.is_of_key.result ≡ true = search rules in
     unknown_is (pair_of (value_of c.args.c.now)) c.is_empty.result (sym c.is_of_key.ensures ∙ single)
-    (λ is k below. sym (c.having.ensures k below) ∙ c.is_empty.ensures.yes is k below)
-    (λ missing. c.is_empty.ensures.no (λ k below. c.having.ensures k below ∙ missing k below))
+    (λ is k below. sym (c.targets_with_fact.ensures k below) ∙ c.is_empty.ensures.yes is k below)
+    (λ missing. c.is_empty.ensures.no (λ k below. c.targets_with_fact.ensures k below ∙ missing k below))
 
 pub returns : goal.returns
 returns c =

@@ -14,10 +14,10 @@ returns-then-is_empty-clause-none c =
     let no : c.is_of_key.result ≡ false = search rules in
     let so : c.is_empty.result ≡ true = search rules in
     not_rustcs (pair_of (value_of c.args.c.now)) (sym c.is_of_key.ensures ∙ no)
-    (λ k below. sym (c.having-targets.ensures k below) ∙ c.is_empty.ensures.yes so k below)
+    (λ k below. sym (c.targets_with_fact-targets.ensures k below) ∙ c.is_empty.ensures.yes so k below)
 
 pub returns-clause-some : goal.returns-clause-some
 returns-clause-some c =
     let so : c.is_empty.result ≡ false = search rules in
     had_is (pair_of (value_of c.args.c.now)) c.is_empty.result so
-    (λ none. c.is_empty.ensures.no (λ k below. c.having-targets.ensures k below ∙ none k below))
+    (λ none. c.is_empty.ensures.no (λ k below. c.targets_with_fact-targets.ensures k below ∙ none k below))

@@ -12,10 +12,10 @@ use key_answers::answer::{Answer, Status};
 use manifests::reading::Manifest;
 use std::alloc::{AllocError, Global};
 use std::rt::{Env, Files};
-use workspaces::Documents;
+use workspaces::ManifestCache;
 
 /// A question about a manifest.
-pub trait Question {
+pub trait ManifestQuery {
     /// Returns whether the query needs the lines of keys.
     fn asks_for_lines(&self) -> bool;
 
@@ -42,9 +42,9 @@ pub trait Question {
 
 /// Returns the answers on these manifests, in their order. Those in the documents are not read again. A manifest that
 /// can't be used, for example since it has more bytes than the limit, does not stop the others.
-pub fn answer_each<R: Files + Input + Env + AllocGlobal, Q: Question>(
+pub fn answer_each<R: Files + Input + Env + AllocGlobal, Q: ManifestQuery>(
     rt: &R,
-    documents: &mut Documents,
+    documents: &mut ManifestCache,
     paths: &[&str],
     question: &mut Q,
 ) -> Result<Answer, AllocError> {
@@ -57,7 +57,7 @@ pub fn answer_each<R: Files + Input + Env + AllocGlobal, Q: Question>(
 }
 
 /// Adds the answer on a manifest that is read.
-fn add_answer_on_read<Q: Question>(
+fn add_answer_on_read<Q: ManifestQuery>(
     alloc: Global,
     taken: &NormalizedManifest,
     question: &mut Q,
@@ -75,7 +75,7 @@ fn add_answer_on_read<Q: Question>(
 }
 
 /// Returns the answer on a manifest that can't be used.
-fn answer_on_unusable<Q: Question>(
+fn answer_on_unusable<Q: ManifestQuery>(
     alloc: Global,
     path: &str,
     unusable: &InputError,
@@ -88,9 +88,9 @@ fn answer_on_unusable<Q: Question>(
 }
 
 /// Adds the answer on the manifest that is named.
-fn add_answer_on<R: Files + Input + Env + AllocGlobal, Q: Question>(
+fn add_answer_on<R: Files + Input + Env + AllocGlobal, Q: ManifestQuery>(
     rt: &R,
-    documents: &mut Documents,
+    documents: &mut ManifestCache,
     path: &str,
     question: &mut Q,
     whole: &mut Answer,
