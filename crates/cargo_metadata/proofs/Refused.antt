@@ -10,7 +10,7 @@ use Rattle.cargo_metadata.specs.Packages.{IsPackage}
 use Rattle.cargo_metadata.specs.Documents.{IsMember, IsVersionOne, IsIn, IsFault, IsWhole, IsRefused}
 use Rattle.cargo_metadata.specs.declared.packages.Package.{Package}
 use Rattle.cargo_metadata.specs.declared.refusals.ExpectedValue.TheVariants as expected
-use Rattle.cargo_metadata.specs.declared.refusals.Refusal.{Refusal}
+use Rattle.cargo_metadata.specs.declared.refusals.MetadataError.{MetadataError}
 use Rattle.cargo_metadata.proofs.Elements.{list_fits}
 
 pub version_whole : (d : Data) → IsVersionOne d → IsWhole d (codes "version", expected.One)
@@ -37,7 +37,7 @@ members_whole d ms rows = record {
 }
 
 -- the error is in the field after these
-first_part : (before : List Field) (field : Field) (after : List Field) (d : Data) (refusal : Refusal)
+first_part : (before : List Field) (field : Field) (after : List Field) (d : Data) (refusal : MetadataError)
     → fields_of_document ≡ before ++ field ∷ after → All (IsWhole d) before → IsFault d refusal → IsIn field refusal
     → IsRefused d refusal
 first_part before field after d refusal order whole fault within = record {
@@ -50,11 +50,11 @@ first_part before field after d refusal order whole fault within = record {
   fault = fault;
 }
 
-pub in_version : (d : Data) (refusal : Refusal) → IsFault d refusal → IsIn (codes "version", expected.One) refusal
+pub in_version : (d : Data) (refusal : MetadataError) → IsFault d refusal → IsIn (codes "version", expected.One) refusal
     → IsRefused d refusal
 in_version d refusal fault within = first_part [] _ _ d refusal refl (All-nil (IsWhole d)) fault within
 
-module _ (d : Data) (refusal : Refusal) (one : IsVersionOne d) (fault : IsFault d refusal) where
+module _ (d : Data) (refusal : MetadataError) (one : IsVersionOne d) (fault : IsFault d refusal) where
   whole_version : All (IsWhole d) ((codes "version", expected.One) ∷ [])
   whole_version =
       All-cons (IsWhole d) (codes "version", expected.One) [] (version_whole d one) (All-nil (IsWhole d))

@@ -16,8 +16,8 @@ use Rattle.cargo_metadata.specs.declared.refusals.NodeError.{NodeError}
 use Rattle.cargo_metadata.specs.declared.refusals.NodeError.TheVariants as in_node
 use Rattle.cargo_metadata.specs.declared.refusals.ResolveError.{ResolveError}
 use Rattle.cargo_metadata.specs.declared.refusals.ResolveError.TheVariants as in_resolve
-use Rattle.cargo_metadata.specs.declared.refusals.Refusal.{Refusal}
-use Rattle.cargo_metadata.specs.declared.refusals.Refusal.TheVariants as refusals
+use Rattle.cargo_metadata.specs.declared.refusals.MetadataError.{MetadataError}
+use Rattle.cargo_metadata.specs.declared.refusals.MetadataError.TheVariants as refusals
 
 abbrev pub IsMember : Data → Bor (List ℕ) → Type 0
 IsMember d id = as_str d ≡ Some id.now
@@ -48,7 +48,7 @@ IsInResolve d (in_resolve.Node i wrong) = IsFirstAt IsNode (λ e. IsInNode e wro
 IsInResolve d (in_resolve.Memory error) = Unit {0}
 
 -- the error is in this field
-abbrev pub IsIn : Field → Refusal → Type 0
+abbrev pub IsIn : Field → MetadataError → Type 0
 IsIn field (refusals.Field wrong) = IsAt field.0 field.1 wrong
 IsIn field (refusals.Package i wrong) = field.0 ≡ codes "packages"
 IsIn field (refusals.Member i) = field.0 ≡ codes "workspace_members"
@@ -56,7 +56,7 @@ IsIn field (refusals.Resolve wrong) = field.0 ≡ codes "resolve"
 IsIn field (refusals.Memory error) = Unit {0}
 
 -- it is the first error in its field
-abbrev pub IsFault : Data → Refusal → Type 0
+abbrev pub IsFault : Data → MetadataError → Type 0
 IsFault d (refusals.Field wrong) = IsWrong d wrong
 IsFault d (refusals.Package i wrong) =
     IsFirstAt IsPackage (λ e. IsFirstWrong fields_of_package e wrong) (codes "packages") i d
@@ -71,7 +71,7 @@ pub record IsWhole (d : Data) (field : Field) : Type 0 where
   pub members : field.0 ≡ codes "workspace_members" → HasRowsAt IsMember (codes "workspace_members") d
 
 -- the error is the first one in its field, and the fields before it have none
-pub record IsRefused (d : Data) (refusal : Refusal) : Type 0 where
+pub record IsRefused (d : Data) (refusal : MetadataError) : Type 0 where
   pub before : List Field
   pub field : Field
   pub after : List Field
@@ -97,7 +97,7 @@ is_memory_of_resolve (in_resolve.Field wrong) = false
 is_memory_of_resolve (in_resolve.Node i wrong) = is_memory_of_node wrong
 is_memory_of_resolve (in_resolve.Memory error) = true
 
-abbrev pub is_memory : Refusal → Bool
+abbrev pub is_memory : MetadataError → Bool
 is_memory (refusals.Field wrong) = false
 is_memory (refusals.Package i wrong) = false
 is_memory (refusals.Member i) = false

@@ -12,8 +12,8 @@ use Rattle.cargo_metadata.specs.Ids.{package_ids, node_ids, member_ids, id_at, A
 use Rattle.cargo_metadata.specs.Links.{AreNodes, AreIds, AreMembers, IsSpelled, IsSound, AreSound}
 use Rattle.cargo_metadata.specs.declared.graphs.refusals.EdgeError.{EdgeError}
 use Rattle.cargo_metadata.specs.declared.graphs.refusals.EdgeError.TheVariants as in_dependency
-use Rattle.cargo_metadata.specs.declared.graphs.refusals.Refusal.{Refusal}
-use Rattle.cargo_metadata.specs.declared.graphs.refusals.Refusal.TheVariants as refusals
+use Rattle.cargo_metadata.specs.declared.graphs.refusals.GraphError.{GraphError}
+use Rattle.cargo_metadata.specs.declared.graphs.refusals.GraphError.TheVariants as refusals
 
 -- the element at index i has the error, and those before it are valid
 pub record IsFirst {X : Type 0} (IsFine IsFault : X → Type 0) (xs : List X) (i : ℕ) : Type 0 where
@@ -63,7 +63,7 @@ pub record HasDependency (m : Metadata) (i j : ℕ) (wrong : EdgeError) : Type 0
   pub first : IsFirst (λ n. AreSound (node_ids m.nodes.items) n)
       (λ n. IsWrongAt (node_ids m.nodes.items) j wrong n) m.nodes.items i
 
-abbrev pub IsUnlinked : Metadata → Refusal → Type 0
+abbrev pub IsUnlinked : Metadata → GraphError → Type 0
 IsUnlinked m (refusals.SamePackage first again) = IsFirstRepeat (package_ids m.packages.items) first again
 IsUnlinked m (refusals.NoPackage i) = HasNoPackage m i
 IsUnlinked m (refusals.SameNode first again) = IsNodeAgain m first again
@@ -78,7 +78,7 @@ is_memory_of_dependency in_dependency.NoNode = false
 is_memory_of_dependency (in_dependency.Condition i e) = false
 is_memory_of_dependency (in_dependency.Memory error) = true
 
-abbrev pub is_memory : Refusal → Bool
+abbrev pub is_memory : GraphError → Bool
 is_memory (refusals.SamePackage first again) = false
 is_memory (refusals.NoPackage i) = false
 is_memory (refusals.SameNode first again) = false

@@ -7,4 +7,4 @@ mod refusals;
 mod shown;
 
 pub use linking::{Linked, link};
-pub use refusals::{EdgeError, Refusal};
+pub use refusals::{EdgeError, GraphError};

@@ -15,4 +15,6 @@ pub use indexes::Indexes;
 pub use metadata::{Metadata, read};
 pub use nodes::{Dependency, Kind, KindRow, Node};
 pub use packages::Package;
-pub use refusals::{DependencyError, ExpectedValue, FieldError, NodeError, Refusal, ResolveError};
+pub use refusals::{
+    DependencyError, ExpectedValue, FieldError, MetadataError, NodeError, ResolveError,
+};

@@ -13,7 +13,7 @@ ghost use Rattle.cargo_metadata.specs.Documents.{IsRefused, IsFault, IsIn};
 use crate::fields::{field_at, require_list};
 use crate::nodes::{Node, node_of};
 use crate::packages::{Package, package_of};
-use crate::refusals::{ExpectedValue, FieldError, Refusal, ResolveError};
+use crate::refusals::{ExpectedValue, FieldError, MetadataError, ResolveError};
 use serde_json::Value;
 use std::alloc::{AllocError, Global};
 
@@ -28,18 +28,18 @@ pub struct Metadata<'a> {
 
 /// Reads the parts of a document that a graph of packages needs: the version, then the packages, the members and the
 /// nodes. Other fields are ignored. Fails at the first part that is not as expected, and if an allocation fails.
-pub fn read<'a>(alloc: Global, document: &'a Value) -> Result<Metadata<'a>, Refusal>
+pub fn read<'a>(alloc: Global, document: &'a Value) -> Result<Metadata<'a>, MetadataError>
     ensures { MatchResult result (λ m. IsMetadata (view document.now) m)
         (λ refusal. IsRefused (view document.now) refusal) }
 {
     if let Err(wrong) = check_version(document) {
-        return Err(Refusal::Field(wrong));
+        return Err(MetadataError::Field(wrong));
     }
     let packages = packages_at(alloc, document)?;
     let members = members_at(alloc, document)?;
     let resolve = match resolve_at(document) {
         Ok(resolve) => resolve,
-        Err(wrong) => return Err(Refusal::Field(wrong)),
+        Err(wrong) => return Err(MetadataError::Field(wrong)),
     };
     match nodes_at(alloc, resolve) {
         Ok(nodes) => Ok(Metadata {
@@ -47,7 +47,7 @@ pub fn read<'a>(alloc: Global, document: &'a Value) -> Result<Metadata<'a>, Refu
             members,
             nodes,
         }),
-        Err(refusal) => Err(Refusal::Resolve(refusal)),
+        Err(refusal) => Err(MetadataError::Resolve(refusal)),
     }
 }
 
@@ -91,44 +91,44 @@ fn resolve_at<'a>(document: &'a Value) -> Result<&'a Value, FieldError>
 }
 
 /// Reads the packages.
-fn packages_at<'a>(alloc: Global, document: &'a Value) -> Result<Vec<Package<'a>>, Refusal>
+fn packages_at<'a>(alloc: Global, document: &'a Value) -> Result<Vec<Package<'a>>, MetadataError>
     ensures { MatchResult result (λ ps. AreRowsAt IsPackage (codes "packages") (view document.now) ps.items)
         (λ refusal. IsFault (view document.now) refusal × IsIn (codes "packages", ExpectedValue.List) refusal) }
 {
     let items = match require_list(document, "packages") {
         Ok(items) => items,
-        Err(wrong) => return Err(Refusal::Field(wrong)),
+        Err(wrong) => return Err(MetadataError::Field(wrong)),
     };
     let mut packages = Vec::new(alloc);
     'packages: for i in 0..items.len() {
         let unit = match package_of(&items[i]) {
             Ok(unit) => unit,
-            Err(wrong) => return Err(Refusal::Package(i, wrong)),
+            Err(wrong) => return Err(MetadataError::Package(i, wrong)),
         };
         if let Err(error) = packages.push(unit) {
-            return Err(Refusal::Memory(AllocError::from(error)));
+            return Err(MetadataError::Memory(AllocError::from(error)));
         }
     }
     Ok(packages)
 }
 
 /// Reads the ids of the workspace's members.
-fn members_at<'a>(alloc: Global, document: &'a Value) -> Result<Vec<&'a str>, Refusal>
+fn members_at<'a>(alloc: Global, document: &'a Value) -> Result<Vec<&'a str>, MetadataError>
     ensures { MatchResult result (λ ms. AreRowsAt IsMember (codes "workspace_members") (view document.now) ms.items)
         (λ refusal. IsFault (view document.now) refusal × IsIn (codes "workspace_members", ExpectedValue.List) refusal) }
 {
     let items = match require_list(document, "workspace_members") {
         Ok(items) => items,
-        Err(wrong) => return Err(Refusal::Field(wrong)),
+        Err(wrong) => return Err(MetadataError::Field(wrong)),
     };
     let mut members = Vec::new(alloc);
     'members: for i in 0..items.len() {
         let id = match items[i].as_str() {
             Some(id) => id,
-            None => return Err(Refusal::Member(i)),
+            None => return Err(MetadataError::Member(i)),
         };
         if let Err(error) = members.push(id) {
-            return Err(Refusal::Memory(AllocError::from(error)));
+            return Err(MetadataError::Memory(AllocError::from(error)));
         }
     }
     Ok(members)

@@ -60,7 +60,7 @@ pub enum ResolveError {
 
 /// The reason why a document is rejected.
 #[derive(Debug, Drop)]
-pub enum Refusal {
+pub enum MetadataError {
     /// A field of the document.
     Field(FieldError),
     /// A field of the package at this index.
@@ -72,14 +72,14 @@ pub enum Refusal {
     Memory(AllocError),
 }
 
-impl Refusal {
+impl MetadataError {
     /// Returns whether an allocation failed, anywhere in the document.
     pub fn is_memory(&self) -> bool
         ensures { result ≡ is_memory self.now }
     {
         match self {
-            Refusal::Memory(_) | Refusal::Resolve(ResolveError::Memory(_)) => true,
-            Refusal::Resolve(ResolveError::Node(_, wrong)) => wrong.is_memory(),
+            MetadataError::Memory(_) | MetadataError::Resolve(ResolveError::Memory(_)) => true,
+            MetadataError::Resolve(ResolveError::Node(_, wrong)) => wrong.is_memory(),
             _ => false,
         }
     }

@@ -1,7 +1,7 @@
 //! The messages of refusals: the path in the document, and the value that is expected there.
 
 use crate::refusals::{
-    DependencyError, ExpectedValue, FieldError, NodeError, Refusal, ResolveError,
+    DependencyError, ExpectedValue, FieldError, MetadataError, NodeError, ResolveError,
 };
 use std::fmt::{self, Display, Formatter, Write};
 
@@ -56,14 +56,18 @@ impl Display for ResolveError {
     }
 }
 
-impl Display for Refusal {
+impl Display for MetadataError {
     fn fmt<W: Write>(&self, f: &mut Formatter<W>) -> fmt::Result {
         match self {
-            Refusal::Field(wrong) => write!(f, "{wrong}"),
-            Refusal::Package(i, wrong) => write!(f, "packages[{i}].{wrong}"),
-            Refusal::Member(i) => write!(f, "workspace_members[{i}]: {}", ExpectedValue::Text),
-            Refusal::Resolve(wrong) => write!(f, "resolve{wrong}"),
-            Refusal::Memory(error) => write!(f, "{error}"),
+            MetadataError::Field(wrong) => write!(f, "{wrong}"),
+            MetadataError::Package(i, wrong) => write!(f, "packages[{i}].{wrong}"),
+            MetadataError::Member(i) => write!(
+                f,
+                "workspace_members[{i}]: {}",
+                ExpectedValue::Text
+            ),
+            MetadataError::Resolve(wrong) => write!(f, "resolve{wrong}"),
+            MetadataError::Memory(error) => write!(f, "{error}"),
         }
     }
 }

@@ -11,8 +11,8 @@ use Rattle.declared_features.specs.declared.manifests.DependencyError.{Dependenc
 use Rattle.declared_features.specs.declared.manifests.DependencyError.TheVariants as in_declared
 use Rattle.declared_features.specs.declared.manifests.ManifestError.{ManifestError}
 use Rattle.declared_features.specs.declared.manifests.ManifestError.TheVariants as in_manifest
-use Rattle.declared_features.specs.declared.manifests.Refusal.{Refusal}
-use Rattle.declared_features.specs.declared.manifests.Refusal.TheVariants as refusals
+use Rattle.declared_features.specs.declared.manifests.DeclarationsError.{DeclarationsError}
+use Rattle.declared_features.specs.declared.manifests.DeclarationsError.TheVariants as refusals
 
 -- ---- the fields, in the order in which they are read
 
@@ -50,7 +50,7 @@ IsInManifest d (in_manifest.Dependency i wrong) =
     IsFirstAt IsDeclared (λ e. IsInDeclared e wrong) (codes "dependencies") i d
 IsInManifest d (in_manifest.Memory error) = Unit {0}
 
-abbrev pub IsRefused : Data → Refusal → Type 0
+abbrev pub IsRefused : Data → DeclarationsError → Type 0
 IsRefused d (refusals.Field wrong) = IsFirstWrong fields_of_document d wrong
 IsRefused d (refusals.Package i wrong) = IsFirstAt IsManifest (λ e. IsInManifest e wrong) (codes "packages") i d
 IsRefused d (refusals.Memory error) = Unit {0}

@@ -11,7 +11,7 @@ ghost use Rattle.declared_features.specs.Manifests.{index_of_id, package_index, 
 ghost use Rattle.declared_features.specs.Rows.{EdgeKind, kinds_by, kinds_at, links_at, AreRowsOf};
 ghost use Rattle.declared_features.specs.Edges.{AreSame, IsLike, IsOf, name_at, code_name};
 
-use crate::manifests::{Declared, Manifest, Refusal, read_manifests};
+use crate::manifests::{DeclarationsError, Declared, Manifest, read_manifests};
 use cargo_metadata::graphs::Linked;
 use cargo_metadata::{Dependency as Edge, Indexes, KindRow, Metadata, Package};
 use package_graphs::Dependency as LinkedEdge;
@@ -99,7 +99,7 @@ impl<'a> Declarations<'a> {
         alloc: Global,
         document: &'a Value,
         metadata: &Metadata<'a>,
-    ) -> Result<Declarations<'a>, Refusal>
+    ) -> Result<Declarations<'a>, DeclarationsError>
         // Each package of the document has a manifest: the dependencies, the features and the library that its object
         // declares.
         ensures manifests { IfOk result
@@ -114,7 +114,7 @@ impl<'a> Declarations<'a> {
         let manifests = read_manifests(alloc, document)?;
         match declarations_of(alloc, metadata, manifests) {
             Ok(declarations) => Ok(declarations),
-            Err(refused) => Err(Refusal::Memory(refused)),
+            Err(refused) => Err(DeclarationsError::Memory(refused)),
         }
     }
 

@@ -12,5 +12,7 @@ mod requested;
 pub use declaring::{Declarations, DeclaredGraph, Row, rows_of};
 pub use entries::{FeatureEntry, entry_of};
 pub use linking::{Described, RequestedFeatures, described_features};
-pub use manifests::{Declared, DependencyError, Feature, Manifest, ManifestError, Refusal};
+pub use manifests::{
+    DeclarationsError, Declared, DependencyError, Feature, Manifest, ManifestError,
+};
 pub use missing_edges::{MissingEdge, first_filtered, first_missing_edge};

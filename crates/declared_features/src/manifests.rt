@@ -74,7 +74,7 @@ pub enum ManifestError {
 
 /// The reason why the declarations of the packages are refused.
 #[derive(Debug, Drop)]
-pub enum Refusal {
+pub enum DeclarationsError {
     Field(FieldError),
     /// The declarations of the package at this index are refused.
     Package(usize, ManifestError),
@@ -296,24 +296,27 @@ fn manifest_of<'a>(alloc: Global, value: &'a Value) -> Result<Manifest<'a>, Mani
 /// # Errors
 ///
 /// Fails for the first field that lacks a value of the expected type, and if memory is refused.
-pub fn read_manifests<'a>(alloc: Global, document: &'a Value) -> Result<Vec<Manifest<'a>>, Refusal>
+pub fn read_manifests<'a>(
+    alloc: Global,
+    document: &'a Value,
+) -> Result<Vec<Manifest<'a>>, DeclarationsError>
     ensures { MatchResult result
         (λ manifests. AreRowsAt IsManifest (codes "packages") (view document.now) manifests.items)
         (λ refusal. IsRefused (view document.now) refusal) }
 {
     let items = match require_list(document, "packages") {
         Ok(items) => items,
-        Err(wrong) => return Err(Refusal::Field(wrong)),
+        Err(wrong) => return Err(DeclarationsError::Field(wrong)),
     };
     let mut manifests = Vec::new(alloc);
     'packages: for i in 0..items.len() {
         match manifest_of(alloc, &items[i]) {
             Ok(manifest) => {
                 if let Err(error) = manifests.push(manifest) {
-                    return Err(Refusal::Memory(AllocError::from(error)));
+                    return Err(DeclarationsError::Memory(AllocError::from(error)));
                 }
             }
-            Err(wrong) => return Err(Refusal::Package(i, wrong)),
+            Err(wrong) => return Err(DeclarationsError::Package(i, wrong)),
         }
     }
     Ok(manifests)
@@ -339,12 +342,12 @@ impl Display for ManifestError {
     }
 }
 
-impl Display for Refusal {
+impl Display for DeclarationsError {
     fn fmt<W: Write>(&self, f: &mut Formatter<W>) -> fmt::Result {
         match self {
-            Refusal::Field(wrong) => write!(f, "{wrong}"),
-            Refusal::Package(i, wrong) => write!(f, "packages[{i}]{wrong}"),
-            Refusal::Memory(error) => write!(f, "{error}"),
+            DeclarationsError::Field(wrong) => write!(f, "{wrong}"),
+            DeclarationsError::Package(i, wrong) => write!(f, "packages[{i}]{wrong}"),
+            DeclarationsError::Memory(error) => write!(f, "{error}"),
         }
     }
 }

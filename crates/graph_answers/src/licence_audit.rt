@@ -9,7 +9,7 @@ use crate::identifiers::{Messages, Place};
 use crate::licence_report::{LicenceReport, counts_line};
 use crate::lines::push;
 use crate::policies::AuditPolicy;
-use crate::query::{GraphArguments, GraphQuery, unusable_words};
+use crate::query::{GraphArguments, GraphQuery, argument_error};
 use crate::unused::report_unused;
 use cargo_platform::shown_text;
 use key_answers::answer::{Answer, QueryError, Status};
@@ -119,7 +119,7 @@ fn add_exceptions(audit: &mut Audit<'_>, alloc: Global) -> Result<(), QueryError
             Err(ExceptionError::Memory(refused)) => return Err(QueryError::Memory(refused)),
             Err(error) => {
                 let text = no_exception(alloc, word, &error)?;
-                return Err(unusable_words(alloc, text.as_str()));
+                return Err(argument_error(alloc, text.as_str()));
             }
         }
     }
@@ -179,7 +179,7 @@ impl<'a> Audit<'a> {
         policy: Option<AuditPolicy>,
     ) -> Result<Option<Audit<'a>>, QueryError> {
         if let Some(text) = misplaced(arguments) {
-            return Err(unusable_words(alloc, text));
+            return Err(argument_error(alloc, text));
         }
         if arguments.allow.is_none() && arguments.allow_file.is_none() && policy.is_none() {
             return Ok(None);

@@ -10,7 +10,7 @@ use cargo_metadata::fields::text_at;
 use cargo_metadata::graphs::{Linked, link};
 use cargo_metadata::{Metadata, read};
 use cargo_platform::shown_text;
-use declared_features::{Declarations, DeclaredGraph, QueryError as Undeclared};
+use declared_features::{Declarations, DeclarationsError, DeclaredGraph};
 use key_answers::answer::{QueryError, file_error};
 use key_answers::printing::shown_name;
 use serde_json::{Error, Value};
@@ -69,7 +69,7 @@ pub struct Input<'a> {
     pub metadata: Metadata<'a>,
     pub linked: Linked<'a>,
     /// The declarations of the packages, or why they cannot be read. No answer without features needs them.
-    pub declared: Result<Declarations<'a>, Undeclared>,
+    pub declared: Result<Declarations<'a>, DeclarationsError>,
 }
 
 /// Keeps as roots only the members with one of these names, or all if there are no names. Fails with a name that no
@@ -158,7 +158,7 @@ impl<'a> Input<'a> {
         let metadata = metadata_of(alloc, document)?;
         let linked = linked_from(alloc, &metadata, roots)?;
         let declared = Declarations::of(alloc, document, &metadata);
-        if let Err(Undeclared::Memory(_)) = &declared {
+        if let Err(DeclarationsError::Memory(_)) = &declared {
             return Err(Rejected::from(AllocError));
         }
         let input = Input {

@@ -5,8 +5,8 @@ ghost use Rattle.cargo_metadata.specs.Documents.{is_memory};
 ghost use Rattle.cargo_metadata.specs.Refusals.{is_memory as is_memory_of_graph};
 
 use crate::lines::{push, shown};
-use cargo_metadata::graphs::{EdgeError, Refusal as Unlinked};
-use cargo_metadata::{ExpectedValue, Metadata, Refusal, ResolveError};
+use cargo_metadata::graphs::{EdgeError, GraphError};
+use cargo_metadata::{ExpectedValue, Metadata, MetadataError, ResolveError};
 use cargo_platform::ParseError;
 use input_limits::{deep_at, deep_text};
 pub use key_answers::answer::file_error;
@@ -35,10 +35,10 @@ fn text_in<'a>(list: Option<&'a Value>, index: usize, field: &str) -> Option<&'a
 }
 
 /// Returns the package that a refusal is about: its name, or the id of its node.
-fn subject_of<'a>(document: &'a Value, refusal: &Refusal) -> Option<&'a str> {
+fn subject_of<'a>(document: &'a Value, refusal: &MetadataError) -> Option<&'a str> {
     match refusal {
-        Refusal::Package(i, _) => text_in(document.get("packages"), *i, "name"),
-        Refusal::Resolve(ResolveError::Node(i, _)) => {
+        MetadataError::Package(i, _) => text_in(document.get("packages"), *i, "name"),
+        MetadataError::Resolve(ResolveError::Node(i, _)) => {
             let resolve = document.get("resolve")?;
             text_in(resolve.get("nodes"), *i, "id")
         }
@@ -47,9 +47,13 @@ fn subject_of<'a>(document: &'a Value, refusal: &Refusal) -> Option<&'a str> {
 }
 
 /// Adds the command that prints a graph to the reason why a document without one is rejected.
-fn with_command(alloc: Global, reason: String, refusal: &Refusal) -> Result<String, AllocError> {
+fn with_command(
+    alloc: Global,
+    reason: String,
+    refusal: &MetadataError,
+) -> Result<String, AllocError> {
     match refusal {
-        Refusal::Field(wrong) if matches!(wrong.expected, ExpectedValue::Resolve) => {
+        MetadataError::Field(wrong) if matches!(wrong.expected, ExpectedValue::Resolve) => {
             format!(in alloc; "{reason}: run `{COMMAND}` without it")
         }
         _ => Ok(reason),
@@ -61,7 +65,7 @@ fn with_command(alloc: Global, reason: String, refusal: &Refusal) -> Result<Stri
 pub fn document_reason(
     alloc: Global,
     document: &Value,
-    refusal: &Refusal,
+    refusal: &MetadataError,
 ) -> Result<String, AllocError>
     ensures memory { OnOk result (is_memory refusal.now ≡ false) }
 {
@@ -89,15 +93,15 @@ fn id_depended_on<'a>(metadata: &Metadata<'a>, i: usize, j: usize) -> Option<&'a
 }
 
 /// Returns the id that a refusal is about.
-fn id_of<'a>(metadata: &Metadata<'a>, refusal: &Unlinked) -> Option<&'a str> {
+fn id_of<'a>(metadata: &Metadata<'a>, refusal: &GraphError) -> Option<&'a str> {
     match refusal {
-        Unlinked::SamePackage { again, .. } => id_of_package(metadata, *again),
-        Unlinked::NoPackage(i) => id_of_node(metadata, *i),
-        Unlinked::SameNode { again, .. } => id_of_node(metadata, *again),
-        Unlinked::NoMember(i) => metadata.members.get(*i).copied(),
-        Unlinked::Dependency(i, j, EdgeError::NoNode) => id_depended_on(metadata, *i, *j),
-        Unlinked::Dependency(i, _, _) => id_of_node(metadata, *i),
-        Unlinked::Memory(_) => None,
+        GraphError::SamePackage { again, .. } => id_of_package(metadata, *again),
+        GraphError::NoPackage(i) => id_of_node(metadata, *i),
+        GraphError::SameNode { again, .. } => id_of_node(metadata, *again),
+        GraphError::NoMember(i) => metadata.members.get(*i).copied(),
+        GraphError::Dependency(i, j, EdgeError::NoNode) => id_depended_on(metadata, *i, *j),
+        GraphError::Dependency(i, _, _) => id_of_node(metadata, *i),
+        GraphError::Memory(_) => None,
     }
 }
 
@@ -164,7 +168,7 @@ fn fault_lines(alloc: Global, key: &str, error: &ParseError) -> Result<String, A
 pub fn graph_reason(
     alloc: Global,
     metadata: &Metadata<'_>,
-    refusal: &Unlinked,
+    refusal: &GraphError,
 ) -> Result<String, AllocError>
     ensures memory { OnOk result (is_memory_of_graph refusal.now ≡ false) }
 {
@@ -173,7 +177,7 @@ pub fn graph_reason(
     }
     let reason = format!(in alloc; "{refusal}")?;
     let mut reason = about(alloc, reason, id_of(metadata, refusal))?;
-    if let Unlinked::Dependency(i, j, EdgeError::Condition(k, error)) = refusal {
+    if let GraphError::Dependency(i, j, EdgeError::Condition(k, error)) = refusal {
         if let Some(key) = condition_at(metadata, *i, *j, *k) {
             let lines = fault_lines(alloc, key, error)?;
             push(&mut reason, lines.as_str())?;

@@ -16,7 +16,7 @@ use std::rt::{Env, Files};
 use std::{env, fs, io};
 
 /// Returns the error for a file that can't be written.
-fn unusable(alloc: Global, file: &str, error: &io::Error) -> Result<Answer, AllocError> {
+fn file_error(alloc: Global, file: &str, error: &io::Error) -> Result<Answer, AllocError> {
     let file = shown_text(alloc, file)?;
     let text = format!(in alloc; "{file}: error: {error}\n")?;
     Ok(Answer::unusable(alloc, text))
@@ -202,7 +202,7 @@ fn written<R: Files + AllocGlobal>(
     let Report { answer, page } = report;
     if let (Some(page), Some(file)) = (&page, file) {
         if let Err(error) = fs::write(rt, file, page.as_str()) {
-            return unusable(rt.alloc(), file, &error);
+            return file_error(rt.alloc(), file, &error);
         }
     }
     Ok(answer)

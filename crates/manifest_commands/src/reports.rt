@@ -8,7 +8,7 @@ use graph_answers::{
 };
 use graph_lines::show;
 use graph_queries::graph::Graph;
-use graph_queries::query::{GraphArguments, GraphQuery, unusable_words};
+use graph_queries::query::{GraphArguments, GraphQuery, argument_error};
 use graph_queries::reading::{Input, Rejected, document_of, graph_in, graph_of};
 use key_answers::answer::{Answer, QueryError, Status, answer_or_error};
 use selected_targets::{TableSelection, group_targets};
@@ -54,7 +54,7 @@ fn request_of<'a, 'b>(
 ) -> Result<Request<'a, 'b>, QueryError> {
     if bill.is_some() {
         if let Some(text) = misplaced_format(arguments) {
-            return Err(unusable_words(alloc, text));
+            return Err(argument_error(alloc, text));
         }
     }
     let query = GraphQuery::of(alloc, arguments)?;

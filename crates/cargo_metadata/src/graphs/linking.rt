@@ -8,7 +8,7 @@ ghost use Rattle.cargo_metadata.specs.Indexes.{AreFound};
 ghost use Rattle.cargo_metadata.specs.Inside.Finding.{AreNodesFound, AreMembersFound};
 
 use super::edges::edges_of;
-use super::refusals::Refusal;
+use super::refusals::GraphError;
 use crate::indexes::Indexes;
 use crate::{Metadata, Package as Described};
 use package_graphs::Package;
@@ -26,7 +26,7 @@ pub struct Linked<'a> {
 
 /// Returns the graph of a document. Fails with its first error, of the ids of packages, of nodes and of members, and
 /// then of the nodes' dependencies, and if an allocation fails.
-pub fn link<'a>(alloc: Global, metadata: &Metadata<'a>) -> Result<Linked<'a>, Refusal>
+pub fn link<'a>(alloc: Global, metadata: &Metadata<'a>) -> Result<Linked<'a>, GraphError>
     ensures { MatchResult result (λ linked. IsLinked metadata.now linked) (λ refusal. IsUnlinked metadata.now refusal) }
 {
     let packages = package_indexes(alloc, metadata)?;
@@ -36,7 +36,7 @@ pub fn link<'a>(alloc: Global, metadata: &Metadata<'a>) -> Result<Linked<'a>, Re
 }
 
 /// Returns the indexes of the packages by id.
-fn package_indexes<'a>(alloc: Global, metadata: &Metadata<'a>) -> Result<Indexes<'a>, Refusal>
+fn package_indexes<'a>(alloc: Global, metadata: &Metadata<'a>) -> Result<Indexes<'a>, GraphError>
     ensures { MatchResult result (λ indexes. AreFound indexes (package_ids metadata.now.packages.items))
         (λ refusal. IsUnlinked metadata.now refusal) }
 {
@@ -44,8 +44,8 @@ fn package_indexes<'a>(alloc: Global, metadata: &Metadata<'a>) -> Result<Indexes
     'packages: for i in 0..metadata.packages.len() {
         match indexes.add(metadata.packages[i].id, i) {
             Ok(None) => {}
-            Ok(Some(first)) => return Err(Refusal::SamePackage { first, again: i }),
-            Err(error) => return Err(Refusal::Memory(error)),
+            Ok(Some(first)) => return Err(GraphError::SamePackage { first, again: i }),
+            Err(error) => return Err(GraphError::Memory(error)),
         }
     }
     Ok(indexes)
@@ -56,7 +56,7 @@ fn node_indexes<'a>(
     alloc: Global,
     packages: &Indexes<'a>,
     metadata: &Metadata<'a>,
-) -> Result<(Indexes<'a>, Vec<Described<'a>>), Refusal>
+) -> Result<(Indexes<'a>, Vec<Described<'a>>), GraphError>
     requires { AreFound packages.now (package_ids metadata.now.packages.items) }
     ensures { MatchResult result (λ found. AreNodesFound metadata.now found.0 found.1.items)
         (λ refusal. IsUnlinked metadata.now refusal) }
@@ -66,15 +66,15 @@ fn node_indexes<'a>(
     'nodes: for i in 0..metadata.nodes.len() {
         let id = metadata.nodes[i].id;
         let Some(index) = packages.find(id) else {
-            return Err(Refusal::NoPackage(i));
+            return Err(GraphError::NoPackage(i));
         };
         match indexes.add(id, i) {
             Ok(None) => {}
-            Ok(Some(first)) => return Err(Refusal::SameNode { first, again: i }),
-            Err(error) => return Err(Refusal::Memory(error)),
+            Ok(Some(first)) => return Err(GraphError::SameNode { first, again: i }),
+            Err(error) => return Err(GraphError::Memory(error)),
         }
         if let Err(error) = described.push(metadata.packages[index]) {
-            return Err(Refusal::Memory(AllocError::from(error)));
+            return Err(GraphError::Memory(AllocError::from(error)));
         }
     }
     Ok((indexes, described))
@@ -85,7 +85,7 @@ fn member_indexes<'a>(
     alloc: Global,
     nodes: &Indexes<'a>,
     metadata: &Metadata<'a>,
-) -> Result<Indexes<'a>, Refusal>
+) -> Result<Indexes<'a>, GraphError>
     requires ids { AreIds metadata.now }
     requires nodes { AreFound nodes.now (node_ids metadata.now.nodes.items) }
     ensures { MatchResult result (λ members. AreMembersFound metadata.now members)
@@ -95,10 +95,10 @@ fn member_indexes<'a>(
     'members: for i in 0..metadata.members.len() {
         let id = metadata.members[i];
         if nodes.find(id).is_none() {
-            return Err(Refusal::NoMember(i));
+            return Err(GraphError::NoMember(i));
         }
         if let Err(error) = indexes.add(id, i) {
-            return Err(Refusal::Memory(error));
+            return Err(GraphError::Memory(error));
         }
     }
     Ok(indexes)
@@ -111,7 +111,7 @@ fn graph_of<'a>(
     described: Vec<Described<'a>>,
     nodes: &Indexes<'a>,
     members: &Indexes<'a>,
-) -> Result<Linked<'a>, Refusal>
+) -> Result<Linked<'a>, GraphError>
     requires ids { AreIds metadata.now }
     requires nodes { AreNodesFound metadata.now nodes.now described.items }
     requires members { AreMembersFound metadata.now members.now }
@@ -122,7 +122,7 @@ fn graph_of<'a>(
         let node = &metadata.nodes[i];
         let dependencies = match edges_of(alloc, nodes, node) {
             Ok(dependencies) => dependencies,
-            Err((j, wrong)) => return Err(Refusal::Dependency(i, j, wrong)),
+            Err((j, wrong)) => return Err(GraphError::Dependency(i, j, wrong)),
         };
         let unit = Package {
             is_root: members.find(node.id).is_some(),
@@ -130,7 +130,7 @@ fn graph_of<'a>(
             dependencies,
         };
         if let Err(error) = packages.push(unit) {
-            return Err(Refusal::Memory(AllocError::from(error)));
+            return Err(GraphError::Memory(AllocError::from(error)));
         }
     }
     Ok(Linked {

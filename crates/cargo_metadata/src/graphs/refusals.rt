@@ -19,7 +19,7 @@ pub enum EdgeError {
 /// The reason why a document is not a graph. The ids of packages are checked first, then those of nodes and those of
 /// members, and then the dependencies, each in the order of the document.
 #[derive(Debug, Drop)]
-pub enum Refusal {
+pub enum GraphError {
     /// A package has the id of an earlier one.
     SamePackage { first: usize, again: usize },
     /// No package has the id of the node at this index.
@@ -33,14 +33,14 @@ pub enum Refusal {
     Memory(AllocError),
 }
 
-impl Refusal {
+impl GraphError {
     /// Returns whether an allocation failed, also for a condition.
     pub fn is_memory(&self) -> bool
         ensures { result ≡ is_memory self.now }
     {
         matches!(
             self,
-            Refusal::Memory(_) | Refusal::Dependency(_, _, EdgeError::Memory(_))
+            GraphError::Memory(_) | GraphError::Dependency(_, _, EdgeError::Memory(_))
         )
     }
 }

@@ -1,6 +1,6 @@
 //! The messages of refusals: the path in the document, and the error there. They contain no text of the document.
 
-use super::refusals::{EdgeError, Refusal};
+use super::refusals::{EdgeError, GraphError};
 use std::fmt::{self, Display, Formatter, Write};
 
 impl Display for EdgeError {
@@ -13,22 +13,22 @@ impl Display for EdgeError {
     }
 }
 
-impl Display for Refusal {
+impl Display for GraphError {
     fn fmt<W: Write>(&self, f: &mut Formatter<W>) -> fmt::Result {
         match self {
-            Refusal::SamePackage { first, again } => {
+            GraphError::SamePackage { first, again } => {
                 write!(f, "packages[{again}].id: packages[{first}] has this id too")
             }
-            Refusal::NoPackage(i) => write!(f, "resolve.nodes[{i}].id: no package has this id"),
-            Refusal::SameNode { first, again } => {
+            GraphError::NoPackage(i) => write!(f, "resolve.nodes[{i}].id: no package has this id"),
+            GraphError::SameNode { first, again } => {
                 write!(
                     f,
                     "resolve.nodes[{again}].id: resolve.nodes[{first}] has this id too"
                 )
             }
-            Refusal::NoMember(i) => write!(f, "workspace_members[{i}]: no node has this id"),
-            Refusal::Dependency(i, j, wrong) => write!(f, "resolve.nodes[{i}].deps[{j}]{wrong}"),
-            Refusal::Memory(error) => write!(f, "{error}"),
+            GraphError::NoMember(i) => write!(f, "workspace_members[{i}]: no node has this id"),
+            GraphError::Dependency(i, j, wrong) => write!(f, "resolve.nodes[{i}].deps[{j}]{wrong}"),
+            GraphError::Memory(error) => write!(f, "{error}"),
         }
     }
 }
