@@ -168,7 +168,7 @@ fn push_lines(
 #[derive(Drop, Serialize)]
 struct SelectedDependency<'a> {
     /// One of `selected`, `left out` and `open`.
-    decision: &'static str,
+    choice: &'static str,
     /// The name in the table.
     dependency: &'a str,
     features: Vec<&'a str>,
@@ -204,7 +204,7 @@ fn push_object<'a>(
     let dependency = &row.dependency;
     let described = Described::of(alloc, &manifest.document, dependency)?;
     let line = SelectedDependency {
-        decision: choice_word(&row.decision),
+        choice: choice_word(&row.decision),
         dependency: dependency.name,
         features: described.features,
         key: dependency.key,
