@@ -10,7 +10,7 @@ mod includes;
 mod sources;
 mod target_table;
 
-pub use files::{configuration_beside, current_configurations, is_configuration, manifest_beside};
+pub use files::{configuration_beside, is_configuration, manifest_beside};
 pub use flagged_facts::{FlagFacts, FlaggedTarget, flag_facts};
 pub use flags::SharedFlags;
 pub use target_table::{explain_unsupported, manifest_with_targets};

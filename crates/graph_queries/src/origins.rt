@@ -36,7 +36,7 @@ fn holds_from(side: Side, dependency: &Dependency, host: Option<KnownTarget>) ->
 }
 
 /// Returns the targets on which a package that is built for the side `from` uses its dependency at an index.
-pub fn using_from(
+pub(crate) fn using_from(
     resolved: &Resolved,
     index: usize,
     place: usize,

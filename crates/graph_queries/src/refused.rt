@@ -15,7 +15,7 @@ use serde_json::Value;
 use std::alloc::{AllocError, Global};
 
 /// The command that prints a complete document, as far as it is always the same.
-pub const COMMAND: &str = "cargo metadata --format-version 1";
+pub(crate) const COMMAND: &str = "cargo metadata --format-version 1";
 
 /// Appends to a reason the package that it is about, if one is known.
 fn about(alloc: Global, reason: String, subject: Option<&str>) -> Result<String, AllocError> {
@@ -145,7 +145,10 @@ fn deep_reason(
 }
 
 /// Returns why a document is rejected, if it has a condition that is nested too deep.
-pub fn depth_reason(alloc: Global, metadata: &Metadata<'_>) -> Result<Option<String>, AllocError> {
+pub(crate) fn depth_reason(
+    alloc: Global,
+    metadata: &Metadata<'_>,
+) -> Result<Option<String>, AllocError> {
     match first_deep(metadata) {
         Some((places, at)) => Ok(Some(deep_reason(alloc, metadata, places, at)?)),
         None => Ok(None),

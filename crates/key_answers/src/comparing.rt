@@ -26,7 +26,7 @@ pub enum Relation {
 const SHOWN: usize = 3;
 
 /// All relations, in the order in which they are printed.
-pub const RELATIONS: [Relation; 4] = [
+pub(crate) const RELATIONS: [Relation; 4] = [
     Relation::Implies,
     Relation::ImpliedBy,
     Relation::Equivalent,
@@ -97,7 +97,7 @@ pub struct KnownTargetRelations {
 }
 
 /// Returns how `a` relates to `b` on the known targets.
-pub fn at_known_targets(
+pub(crate) fn at_known_targets(
     alloc: Global,
     a: &Platform,
     b: &Platform,

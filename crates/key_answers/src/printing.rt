@@ -14,7 +14,7 @@ use std::alloc::{AllocError, Global};
 use std::ops::Range;
 
 /// Appends the fact as `rustc --print cfg` prints it, and a line end.
-pub fn push_fact_line(text: &mut String, fact: &Cfg) -> Result<(), AllocError>
+pub(crate) fn push_fact_line(text: &mut String, fact: &Cfg) -> Result<(), AllocError>
     ensures { OnOk result (string_bytes text.new ≡ string_bytes text.old ++ fact_line (value_of fact.now)) }
 {
     match fact {
@@ -43,13 +43,13 @@ pub fn fact_lines(alloc: Global, facts: &[Cfg]) -> Result<String, AllocError>
 }
 
 /// Returns the displayed form of a fact, as `Cfg` prints it.
-pub fn shown_fact(alloc: Global, fact: &Cfg) -> Result<String, AllocError> {
+pub(crate) fn shown_fact(alloc: Global, fact: &Cfg) -> Result<String, AllocError> {
     let text = format!(in alloc; "{fact}")?;
     shown_start(alloc, text.as_str())
 }
 
 /// Returns the displayed forms of facts, joined by commas.
-pub fn shown_facts(alloc: Global, facts: &[Cfg]) -> Result<String, AllocError> {
+pub(crate) fn shown_facts(alloc: Global, facts: &[Cfg]) -> Result<String, AllocError> {
     if facts.is_empty() {
         return String::from_str(alloc, "no facts");
     }
@@ -74,7 +74,7 @@ pub fn shown_name(alloc: Global, name: &str) -> Result<String, AllocError> {
 }
 
 /// Returns the target of an example: `over FACTS`, after `at NAME` if the name matters.
-pub fn shown_example(alloc: Global, example: &PossibleTarget) -> Result<String, AllocError> {
+pub(crate) fn shown_example(alloc: Global, example: &PossibleTarget) -> Result<String, AllocError> {
     let facts = shown_facts(alloc, &example.facts)?;
     match &example.name {
         Some(name) => {
@@ -86,7 +86,7 @@ pub fn shown_example(alloc: Global, example: &PossibleTarget) -> Result<String, 
 }
 
 /// Appends the lines of the text, each indented by four spaces.
-pub fn push_indented(text: &mut String, lines: &str) -> Result<(), AllocError> {
+pub(crate) fn push_indented(text: &mut String, lines: &str) -> Result<(), AllocError> {
     for line in lines.lines() {
         text.push_str("    ")?;
         text.push_str(line)?;
@@ -195,7 +195,7 @@ pub fn refused_key(alloc: Global, key: &str, error: &ParseError) -> Result<Strin
 }
 
 /// Returns the message for a key that is nested too deep from this byte on.
-pub fn deep_key(alloc: Global, at: usize) -> Result<String, AllocError>
+pub(crate) fn deep_key(alloc: Global, at: usize) -> Result<String, AllocError>
     ensures { IfOk result (λ text. string_bytes text ≡ deep_key at) }
 {
     let reason = deep_text(alloc, at)?;

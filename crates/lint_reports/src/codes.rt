@@ -212,7 +212,7 @@ fn said_beside(lint: Lint) -> Said {
 }
 
 /// Returns the explanation of a lint, with its level.
-pub fn explanation_of(lint: Lint) -> Explained {
+pub(crate) fn explanation_of(lint: Lint) -> Explained {
     let Said { short, text } = said_beside(lint);
     Explained {
         lint,

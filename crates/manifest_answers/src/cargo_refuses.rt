@@ -301,7 +301,7 @@ fn first_rejected(
 /// of this.
 ///
 /// Fails only if an allocation fails.
-pub fn rejected_by_cargo(
+pub(crate) fn rejected_by_cargo(
     alloc: Global,
     document: &Document,
     inheriting: WorkspaceRoot<'_>,

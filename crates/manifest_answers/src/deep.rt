@@ -79,7 +79,7 @@ fn deep_key(
 }
 
 /// Returns whether some key of the manifest with this table is nested too deeply.
-pub fn has_deep(alloc: Global, manifest: &Table) -> Result<bool, AllocError> {
+pub(crate) fn has_deep(alloc: Global, manifest: &Table) -> Result<bool, AllocError> {
     match target_keys(alloc, manifest)? {
         Targets::Keys(keys) => Ok(deep_of(&keys).is_some()),
         Targets::NoTable | Targets::Absent => Ok(false),

@@ -44,7 +44,7 @@ impl<'a, 'm> Fault<'a, 'm> {
 }
 
 /// Returns the first byte of the error in a key, and the byte after its last one.
-pub fn span_of(key: &str, error: &ParseError) -> Option<(usize, usize)> {
+pub(crate) fn span_of(key: &str, error: &ParseError) -> Option<(usize, usize)> {
     let span = error.span_in(key)?;
     Some((span.start, span.end))
 }

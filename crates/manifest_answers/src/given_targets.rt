@@ -43,7 +43,7 @@ pub enum FactsFrom<'a> {
 }
 
 /// Returns a line without the carriage return at its end, or `None` if it is blank then.
-pub fn non_blank_line(line: &str) -> Option<&str> {
+pub(crate) fn non_blank_line(line: &str) -> Option<&str> {
     let line = line.strip_suffix("\r").unwrap_or(line);
     if line.trim().is_empty() {
         None

@@ -5,7 +5,7 @@ pub mod cargo_refuses;
 pub mod deep;
 mod dependency_rules;
 mod described;
-pub mod each_manifest;
+mod each_manifest;
 pub mod faults;
 pub mod given_targets;
 pub mod laws;

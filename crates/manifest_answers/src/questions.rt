@@ -20,7 +20,7 @@ use serde::Serialize;
 use std::alloc::{AllocError, Global};
 
 /// Returns the message for a name that no known target has, with the nearest name of a target.
-pub fn unknown_name(alloc: Global, name: &str) -> Result<String, AllocError> {
+pub(crate) fn unknown_name(alloc: Global, name: &str) -> Result<String, AllocError> {
     let shown = shown_name(alloc, name)?;
     match nearest_target(alloc, name)? {
         Some(nearest) => format!(in alloc;
@@ -320,7 +320,7 @@ fn line_of_fact(text: &str, facts: usize) -> usize {
 }
 
 /// Parses the facts in the lines of a file.
-pub fn facts_of_lines(alloc: Global, text: &str) -> Result<Vec<Cfg>, QueryError> {
+pub(crate) fn facts_of_lines(alloc: Global, text: &str) -> Result<Vec<Cfg>, QueryError> {
     match read_facts(alloc, fact_lines_of(alloc, text)?.as_str()) {
         Ok(facts) => Ok(facts),
         Err(FactsError::Memory(refused)) => Err(QueryError::Memory(refused)),
@@ -365,7 +365,7 @@ fn added_fact(alloc: Global, text: &str) -> Result<Cfg, QueryError> {
 }
 
 /// Parses the facts of arguments.
-pub fn added_facts(alloc: Global, texts: &[&str]) -> Result<Vec<Cfg>, QueryError> {
+pub(crate) fn added_facts(alloc: Global, texts: &[&str]) -> Result<Vec<Cfg>, QueryError> {
     let mut facts = Vec::new(alloc);
     for text in texts {
         let fact = added_fact(alloc, text)?;
