@@ -16,8 +16,8 @@ use cargo_platform::{Cfg, CfgExpr, Fold, fold_expression};
 use std::alloc::{AllocError, Global};
 use std::ops::ControlFlow;
 
-/// Returns the targets on which an expression is true, where each fact of an open name or key is taken so that the
-/// whole becomes `unknown`.
+/// Returns the targets on which an expression may be true if `unknown`, and otherwise those on which it is certainly
+/// true. A target may have a fact of an open name or key, or lack it.
 pub fn true_at(
     alloc: Global,
     keys: &[Key],
