@@ -55,7 +55,7 @@ pub fn canonical(alloc: Global, key: &[u8], out: &mut [u8]) -> Outcome
 /// Writes the flat form of a key's condition: bytes that `flat_print` and `flat_matches` take in place of the key.
 ///
 /// Rejects the same keys as `canonical`, with the same codes.
-pub fn read_key(alloc: Global, key: &[u8], out: &mut [u8]) -> Outcome
+pub fn flatten_key(alloc: Global, key: &[u8], out: &mut [u8]) -> Outcome
     // `DONE` is returned with the flat form of the key's condition.
     ensures done { result.code ≡ DONE → IsFlatOf key.now result.needed out.old out.new }
     // `REFUSED` is returned only for a key that is not a condition, with the message and the span of the error in the

@@ -26,7 +26,7 @@ mod unflat;
 
 pub use batches::match_keys;
 pub use depth::{MOST_FLAT_BYTES, MOST_OPEN, is_too_deep};
-pub use keys::{canonical, fault, read_key};
+pub use keys::{canonical, fault, flatten_key};
 pub use known::{facts, target_name, targets};
 pub use matching::matches;
 pub use outcome::{

@@ -5,8 +5,8 @@ use crate::environment::variable;
 use std::alloc::{AllocError, Global};
 use std::rt::{Env, Files};
 use workspaces::{
-    MANIFEST, current_folder_depth, folder_of, from_above, is_file, join_manifest_path, join_path,
-    simplified_path,
+    MANIFEST, ancestor_path, current_folder_depth, folder_of, is_file, join_manifest_path,
+    join_path, simplified_path,
 };
 
 /// The folder that holds a configuration, beside the manifest of a workspace.
@@ -88,7 +88,7 @@ fn add_above<R: Files + Env + AllocGlobal>(
     files: &mut Vec<String>,
 ) -> Result<(), AllocError> {
     for count in 0..=current_folder_depth(rt)? {
-        let folder = from_above(rt.alloc(), count, FOLDER)?;
+        let folder = ancestor_path(rt.alloc(), count, FOLDER)?;
         add_configuration(rt, folder.as_str(), files)?;
     }
     Ok(())

@@ -1,6 +1,6 @@
 //! The `cfg` facts that flags of rustc add to a target.
 
-use crate::flags::{Flags, SharedFlags};
+use crate::flags::{Flags, SharedRustflags};
 use crate::sources::{Source, used_source};
 use cargo_platform::shown_start;
 use key_answers::answer::QueryError;
@@ -11,7 +11,7 @@ use std::rt::{Env, Files};
 
 /// A target to which flags may add facts.
 #[derive(Clone, Copy, Drop)]
-pub struct FlaggedTarget<'a> {
+pub struct RustflagsTarget<'a> {
     pub name: &'a str,
     /// The source of the target's own facts.
     pub facts_from: FactsFrom<'a>,
@@ -21,17 +21,17 @@ pub struct FlaggedTarget<'a> {
 
 /// Facts that flags set.
 #[derive(Drop)]
-pub struct FlagFacts {
+pub struct RustflagsFacts {
     /// The facts, as the flags spell them, each once.
     pub facts: Vec<String>,
     /// A note on each fact, which names the place of its flag.
     pub notes: String,
 }
 
-impl FlagFacts {
+impl RustflagsFacts {
     /// Returns no facts.
-    pub fn none(alloc: Global) -> FlagFacts {
-        FlagFacts {
+    pub fn none(alloc: Global) -> RustflagsFacts {
+        RustflagsFacts {
             facts: Vec::new(alloc),
             notes: String::new(alloc),
         }
@@ -90,8 +90,8 @@ impl FlagFacts {
 fn are_of(
     alloc: Global,
     flags: &Flags,
-    target: &FlaggedTarget<'_>,
-    known: Option<&FlagFacts>,
+    target: &RustflagsTarget<'_>,
+    known: Option<&RustflagsFacts>,
 ) -> Result<bool, AllocError> {
     let Some(key) = &flags.key else {
         return Ok(true);
@@ -124,8 +124,8 @@ struct AllFlags<'a> {
 fn add_present<'a>(
     alloc: Global,
     flags: &'a [Flags],
-    target: &FlaggedTarget<'_>,
-    known: Option<&FlagFacts>,
+    target: &RustflagsTarget<'_>,
+    known: Option<&RustflagsFacts>,
     found: &mut Vec<&'a Flags>,
 ) -> Result<(), AllocError> {
     for flags in flags {
@@ -141,8 +141,8 @@ fn add_present<'a>(
 fn used_flags<'a>(
     alloc: Global,
     all: AllFlags<'a>,
-    target: &FlaggedTarget<'_>,
-    known: Option<&FlagFacts>,
+    target: &RustflagsTarget<'_>,
+    known: Option<&RustflagsFacts>,
 ) -> Result<Vec<&'a Flags>, AllocError> {
     let mut found: Vec<&'a Flags> = Vec::new(alloc);
     add_present(alloc, all.shared, target, known, &mut found)?;
@@ -160,10 +160,10 @@ fn used_flags<'a>(
 fn facts_of(
     alloc: Global,
     all: AllFlags<'_>,
-    target: &FlaggedTarget<'_>,
-    known: Option<&FlagFacts>,
-) -> Result<FlagFacts, AllocError> {
-    let mut facts = FlagFacts::none(alloc);
+    target: &RustflagsTarget<'_>,
+    known: Option<&RustflagsFacts>,
+) -> Result<RustflagsFacts, AllocError> {
+    let mut facts = RustflagsFacts::none(alloc);
     for flags in &used_flags(alloc, all, target, known)? {
         facts.add_all(alloc, flags)?;
     }
@@ -182,11 +182,11 @@ fn facts_of(
 /// all, with the facts that the first set.
 ///
 /// Fails only if an allocation fails.
-pub fn flag_facts<R: Env + AllocGlobal>(
+pub fn rustflags_facts<R: Env + AllocGlobal>(
     rt: &R,
-    shared: &SharedFlags,
-    target: &FlaggedTarget<'_>,
-) -> Result<FlagFacts, AllocError> {
+    shared: &SharedRustflags,
+    target: &RustflagsTarget<'_>,
+) -> Result<RustflagsFacts, AllocError> {
     let alloc = rt.alloc();
     let of_target = shared.of_target(rt, target.name)?;
     let all = AllFlags {

@@ -251,13 +251,13 @@ fn file_flags<R: Files + Input + Env + AllocGlobal>(
 
 /// The flags that are set in the current folder, but for those of a variable that is set for one target.
 #[derive(Drop)]
-pub struct SharedFlags {
+pub struct SharedRustflags {
     pub flags: Vec<Flags>,
     /// Whether Cargo's configuration counts, so that no variable excludes it.
     is_configured: bool,
 }
 
-impl SharedFlags {
+impl SharedRustflags {
     /// Reads the rustflags of the environment. Unless these take precedence, it reads those of the configuration files,
     /// which have at most `limit` bytes each, and of the variable `CARGO_BUILD_RUSTFLAGS`.
     ///
@@ -265,10 +265,10 @@ impl SharedFlags {
     pub fn read<R: Files + Input + Env + AllocGlobal>(
         rt: &R,
         limit: u64,
-    ) -> Result<SharedFlags, QueryError> {
+    ) -> Result<SharedRustflags, QueryError> {
         let found = environment_flags(rt)?;
         if !found.is_empty() {
-            return Ok(SharedFlags {
+            return Ok(SharedRustflags {
                 flags: found,
                 is_configured: false,
             });
@@ -276,7 +276,7 @@ impl SharedFlags {
         let mut flags = file_flags(rt, limit)?;
         let name = String::from_str(rt.alloc(), BUILD_VARIABLE)?;
         add_variable(rt, name, None, &mut flags)?;
-        Ok(SharedFlags {
+        Ok(SharedRustflags {
             flags,
             is_configured: true,
         })

@@ -11,6 +11,6 @@ mod sources;
 mod target_table;
 
 pub use files::{configuration_beside, is_configuration, manifest_beside};
-pub use flagged_facts::{FlagFacts, FlaggedTarget, flag_facts};
-pub use flags::SharedFlags;
+pub use flagged_facts::{RustflagsFacts, RustflagsTarget, rustflags_facts};
+pub use flags::SharedRustflags;
 pub use target_table::{explain_unsupported, manifest_with_targets};

@@ -2,7 +2,7 @@
 //! `target`).
 
 use known_targets::KnownTarget;
-use manifest_lints_findings::{Children, Code, Finding};
+use manifest_lints_findings::{Children, Finding, KeyLint};
 use std::alloc::{AllocError, Global};
 use toml::{Table, Value};
 use workspaces::put;
@@ -71,7 +71,7 @@ pub fn manifest_with_targets(
 /// Fails only if an allocation fails.
 pub fn explain_unsupported(alloc: Global, findings: &mut [Finding]) -> Result<(), AllocError> {
     for finding in findings {
-        if finding.code == Code::Unsupported {
+        if finding.code == KeyLint::Unsupported {
             finding.message = String::from_str(alloc, UNSUPPORTED)?;
             finding.children = Children::none(alloc);
         }

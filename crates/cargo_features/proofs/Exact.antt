@@ -16,10 +16,10 @@ use Rattle.cargo_features.specs.Claims.{holds_at}
 use Rattle.cargo_features.specs.Steps.{all_steps}
 use Rattle.cargo_features.specs.Holding.{is_known, LeadsTo, Holds}
 use Rattle.cargo_features.specs.Inside.Numbered.{count_of, number, IsNumbered, AreNumbered}
-use Rattle.cargo_features.specs.declared.build.Build.{Build}
+use Rattle.cargo_features.specs.declared.build.BuildOptions.{BuildOptions}
 use Rattle.cargo_features.specs.declared.claims.Claim.{Claim}
 use Rattle.cargo_features.specs.declared.claims.Claim.TheVariants as claim
-use Rattle.cargo_features.specs.declared.claims.Condition.TheVariants.{Always}
+use Rattle.cargo_features.specs.declared.claims.StepTargets.TheVariants.{Always}
 use Rattle.cargo_features.specs.declared.claims.Step.{Step}
 use Rattle.cargo_features.specs.declared.packages.Package.{Package}
 use Rattle.cargo_features.proofs.Numbering.{number_fits, known_below, same_claim}
@@ -31,7 +31,7 @@ no_step = record { first = claim.Requested; second = claim.Requested; to = claim
 abbrev no_rule : Rule
 no_rule = record { first = 0; second = 0; to = 0; holds = record { words = [] } }
 
-module _ (build : Build) (packages : List Package) (sets : List TargetSet) (rules : List Rule) (k : ℕ)
+module _ (build : BuildOptions) (packages : List Package) (sets : List TargetSet) (rules : List Rule) (k : ℕ)
     (inside : k < COUNT) (many : length sets ≡ count_of packages)
     (first : (n : ℕ) → is_in sets n k ≡ true → n ≡ 0) (requested : is_in sets 0 k ≡ true)
     (numbered : AreNumbered packages build.host (all_steps build packages) rules) where

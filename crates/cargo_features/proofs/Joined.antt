@@ -25,16 +25,16 @@ use Rattle.cargo_features.specs.Steps.{led_to}
 use Rattle.cargo_features.specs.Steps.{led_where}
 use Rattle.cargo_features.specs.Holding.{is_known, LeadsTo, Holds}
 use Rattle.cargo_features.specs.Graphs.{resolver_1, resolver_2, joined}
-use Rattle.cargo_features.specs.declared.build.Build.{Build}
+use Rattle.cargo_features.specs.declared.build.BuildOptions.{BuildOptions}
 use Rattle.cargo_features.specs.declared.claims.Claim.{Claim}
 use Rattle.cargo_features.specs.declared.claims.Claim.TheVariants as claim
-use Rattle.cargo_features.specs.declared.claims.Condition.{Condition}
-use Rattle.cargo_features.specs.declared.claims.Condition.TheVariants.{Always}
+use Rattle.cargo_features.specs.declared.claims.StepTargets.{StepTargets}
+use Rattle.cargo_features.specs.declared.claims.StepTargets.TheVariants.{Always}
 use Rattle.cargo_features.specs.declared.claims.Place.{Place}
 use Rattle.cargo_features.specs.declared.claims.Step.{Step}
 use Rattle.cargo_features.specs.declared.packages.Dependency.{Dependency}
-use Rattle.cargo_features.specs.declared.packages.Member.{Member}
-use Rattle.cargo_features.specs.declared.packages.Member.TheVariants as listed
+use Rattle.cargo_features.specs.declared.packages.FeatureValue.{FeatureValue}
+use Rattle.cargo_features.specs.declared.packages.FeatureValue.TheVariants as listed
 use Rattle.cargo_features.specs.declared.packages.Package.{Package}
 use Rattle.cargo_features.proofs.Within.{in_each}
 
@@ -64,24 +64,24 @@ gate_joined : (b : Bool) (p i : ℕ) (from : Side) (c : Claim)
 gate_joined true p i from c = refl
 gate_joined false p i from c = refl
 
-counts_more : (b is_root : Bool) (kind : Kind) (build other : Build) → build.with_dev ≡ b → other.with_dev ≡ true
+counts_more : (b is_root : Bool) (kind : Kind) (build other : BuildOptions) → build.with_dev ≡ b → other.with_dev ≡ true
     → counts_kind build is_root kind ≡ true → counts_kind other is_root kind ≡ true
 counts_more b is_root kinds.Normal build other same all h = refl
-counts_more b is_root kinds.Build build other same all h = refl
+counts_more b is_root kinds.BuildOptions build other same all h = refl
 counts_more b is_root kinds.Dev build other same all h =
     let parts = and_parts build.with_dev is_root h in
     and_from other.with_dev is_root all parts.1
 
-begins_more : (build other : Build) (s : Side) (unit : Package) → begins_on build s unit ≡ true
+begins_more : (build other : BuildOptions) (s : Side) (unit : Package) → begins_on build s unit ≡ true
     → begins_on other Target unit ≡ true
 begins_more build other Target unit h = h
 begins_more build other Host unit h = (and_parts unit.is_root (build.by_side && unit.is_macro) h).0
 
 module _ (followed : Kinds) (host : KnownTarget) (packages : List Package) (k : ℕ) where
-  abbrev Two : Build
+  abbrev Two : BuildOptions
   Two = resolver_2 followed host
 
-  abbrev One : Build
+  abbrev One : BuildOptions
   One = resolver_1 followed host
 
   -- one of these steps does what the other does, sides joined
@@ -133,7 +133,7 @@ module _ (followed : Kinds) (host : KnownTarget) (packages : List Package) (k : 
         holds = holds;
       })
 
-  matched_features : (b c : Bool) (first z : Claim) (on : Place) (c1 c2 : Condition) (fs : List ℕ) (y : Step)
+  matched_features : (b c : Bool) (first z : Claim) (on : Place) (c1 c2 : StepTargets) (fs : List ℕ) (y : Step)
       → (b ≡ true → c ≡ true) → z ≡ joined first
       → (holds_at host k c1 ≡ true → holds_at host k c2 ≡ true)
       → Contains (flat_map (to_feature b first on c1) fs) y
@@ -281,7 +281,7 @@ module _ (followed : Kinds) (host : KnownTarget) (packages : List Package) (k : 
         (used_matched i d y x)))
         r.4
 
-    named_matched : (b c : Bool) (f : ℕ) (c1 : Condition) (named : Option ℕ) (y : Step) → (b ≡ true → c ≡ true)
+    named_matched : (b c : Bool) (f : ℕ) (c1 : StepTargets) (named : Option ℕ) (y : Step) → (b ≡ true → c ≡ true)
         → Contains (named_steps b At (claim.Feature p s f) c1 named) y
         → Matches (named_steps c There (claim.Feature p Target f) Always named) y
     named_matched b c f c1 None y more (j, below, is) = absurd (omega (arith, below))
@@ -333,7 +333,7 @@ module _ (followed : Kinds) (host : KnownTarget) (packages : List Package) (k : 
         (both from_1 (gate There i d from_1) (claim.Feature d.to Target g) Always) y is (counted_too d) refl
         (sym (gate_joined d.is_optional p i s from)) refl (λ x. refl)
 
-    member_matched : (f : ℕ) (m : Member) (y : Step)
+    member_matched : (f : ℕ) (m : FeatureValue) (y : Step)
         → Contains (member_steps Two packages At unit (claim.Feature p s f) m) y
         → Matches (member_steps One packages There unit (claim.Feature p Target f) m) y
     member_matched f (listed.Feature n) y is =
@@ -347,8 +347,8 @@ module _ (followed : Kinds) (host : KnownTarget) (packages : List Package) (k : 
 
     features_matched : (y : Step) → Contains (all_features Two packages At unit) y → Here y
     features_matched y h =
-        let f = λ (i : ℕ) (members : Vec Member Global). feature_steps Two packages At unit i members.items in
-        let g = λ (i : ℕ) (members : Vec Member Global). feature_steps One packages There unit i members.items in
+        let f = λ (i : ℕ) (members : Vec FeatureValue Global). feature_steps Two packages At unit i members.items in
+        let g = λ (i : ℕ) (members : Vec FeatureValue Global). feature_steps One packages There unit i members.items in
         let r = in_each 0 f unit.features.items y h in
         let i = 0 + r.0 in
         let from = contains_flat_map (member_steps Two packages At unit (claim.Feature p s i)) r.1.items y r.4 in

@@ -20,17 +20,17 @@ use Rattle.cargo_features.specs.Steps.{active_steps, used_steps, dependency_step
 use Rattle.cargo_features.specs.Steps.{member_steps, feature_steps, all_features, steps_of, steps_on_both, all_steps}
 use Rattle.cargo_features.specs.Steps.{turns_on}
 use Rattle.cargo_features.specs.Holding.{is_known, feature_count, dependency_count, LeadsTo, Holds}
-use Rattle.cargo_features.specs.declared.build.Build.{Build}
+use Rattle.cargo_features.specs.declared.build.BuildOptions.{BuildOptions}
 use Rattle.cargo_features.specs.declared.build.Destination.{Destination}
 use Rattle.cargo_features.specs.declared.claims.Claim.{Claim}
 use Rattle.cargo_features.specs.declared.claims.Claim.TheVariants as claim
-use Rattle.cargo_features.specs.declared.claims.Condition.{Condition}
-use Rattle.cargo_features.specs.declared.claims.Condition.TheVariants.{Always}
+use Rattle.cargo_features.specs.declared.claims.StepTargets.{StepTargets}
+use Rattle.cargo_features.specs.declared.claims.StepTargets.TheVariants.{Always}
 use Rattle.cargo_features.specs.declared.claims.Place.{Place}
 use Rattle.cargo_features.specs.declared.claims.Step.{Step}
 use Rattle.cargo_features.specs.declared.packages.Dependency.{Dependency}
-use Rattle.cargo_features.specs.declared.packages.Member.{Member}
-use Rattle.cargo_features.specs.declared.packages.Member.TheVariants as listed
+use Rattle.cargo_features.specs.declared.packages.FeatureValue.{FeatureValue}
+use Rattle.cargo_features.specs.declared.packages.FeatureValue.TheVariants as listed
 use Rattle.cargo_features.specs.declared.packages.Package.{Package}
 use Rattle.cargo_features.proofs.Within.{in_each}
 use Rattle.cargo_features.proofs.Joined.{of_each}
@@ -58,7 +58,7 @@ in_both xs ys zs ws y f g is =
       | inr b ↦ Contains-append_right zs ws y (g b)
     ]
 
-module _ (build : Build) (packages others : List Package) (more : AskMore packages others) where
+module _ (build : BuildOptions) (packages others : List Package) (more : AskMore packages others) where
   macro_same : (p : ℕ) → is_macro packages p ≡ is_macro others p
   macro_same p =
       ap (λ (ms : List Bool). slice_index_or ms p false)
@@ -131,7 +131,7 @@ module _ (build : Build) (packages others : List Package) (more : AskMore packag
     weak_same from i g None = refl
     weak_same from i g (Some d) = ap (λ (w : Destination). weak_by from i g d w) (destination_same at.side d)
 
-    member_same : (from : Claim) (m : Member)
+    member_same : (from : Claim) (m : FeatureValue)
         → member_steps build packages at unit from m ≡ member_steps build others at unit from m
     member_same from (listed.Feature f) = refl
     member_same from (listed.Dependency i) = refl
@@ -192,8 +192,8 @@ module _ (build : Build) (packages others : List Package) (more : AskMore packag
       feature_more : (y : Step) → Contains (all_features build packages at unit) y
           → Contains (all_features build others at there) y
       feature_more y h =
-          let f = λ (i : ℕ) (members : Vec Member Global). feature_steps build packages at unit i members.items in
-          let g = λ (i : ℕ) (members : Vec Member Global). feature_steps build others at unit i members.items in
+          let f = λ (i : ℕ) (members : Vec FeatureValue Global). feature_steps build packages at unit i members.items in
+          let g = λ (i : ℕ) (members : Vec FeatureValue Global). feature_steps build others at unit i members.items in
           let r = in_each 0 f unit.features.items y h in
           let on = claim.Feature at.index at.side (0 + r.0) in
           let from = contains_flat_map (member_steps build packages at unit on) r.1.items y r.4 in

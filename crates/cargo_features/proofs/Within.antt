@@ -27,15 +27,15 @@ use Rattle.cargo_features.specs.Steps.{led_to}
 use Rattle.cargo_features.specs.Steps.{led_where}
 use Rattle.cargo_features.specs.Holding.{LeadsTo, Holds}
 use Rattle.cargo_features.specs.Graphs.{IsUnit, IsGraphOf, HasEdge}
-use Rattle.cargo_features.specs.declared.build.Build.{Build}
+use Rattle.cargo_features.specs.declared.build.BuildOptions.{BuildOptions}
 use Rattle.cargo_features.specs.declared.claims.Claim.{Claim}
 use Rattle.cargo_features.specs.declared.claims.Claim.TheVariants as claim
-use Rattle.cargo_features.specs.declared.claims.Condition.{Condition}
+use Rattle.cargo_features.specs.declared.claims.StepTargets.{StepTargets}
 use Rattle.cargo_features.specs.declared.claims.Place.{Place}
 use Rattle.cargo_features.specs.declared.claims.Step.{Step}
 use Rattle.cargo_features.specs.declared.packages.Dependency.{Dependency}
-use Rattle.cargo_features.specs.declared.packages.Member.{Member}
-use Rattle.cargo_features.specs.declared.packages.Member.TheVariants as listed
+use Rattle.cargo_features.specs.declared.packages.FeatureValue.{FeatureValue}
+use Rattle.cargo_features.specs.declared.packages.FeatureValue.TheVariants as listed
 use Rattle.cargo_features.specs.declared.packages.Package.{Package}
 
 -- the element whose steps one is of
@@ -74,7 +74,7 @@ first_is Host unit h =
     let parts = and_parts unit.is_root unit.is_macro h in
     (parts.0, ap (λ (b : Bool). graphs.side b) (sym parts.1))
 
-module _ (build : Build) (packages : List Package) (graph : List units.Package) (k : ℕ)
+module _ (build : BuildOptions) (packages : List Package) (graph : List units.Package) (k : ℕ)
     (over : IsGraphOf packages graph) where
   -- what is claimed of a package that is used
   abbrev Is : Claim → Type 0
@@ -96,12 +96,12 @@ module _ (build : Build) (packages : List Package) (graph : List units.Package) 
       → Contains (xs ++ ys) y → Keeps y
   of_either xs ys y f g is = elim (Contains-append_cases xs ys y is) as (λ _. Keeps y) [ inl a ↦ f a | inr b ↦ g b ]
 
-  of_feature : (b : Bool) (first : Claim) (on : Place) (c : Condition) (f : ℕ) (y : Step)
+  of_feature : (b : Bool) (first : Claim) (on : Place) (c : StepTargets) (f : ℕ) (y : Step)
       → Contains (to_feature b first on c f) y → Keeps y
   of_feature b first on c f y =
       of_when b (one first (claim.Feature on.index on.side f) c) y (λ _ h a b. tt)
 
-  of_features : (b : Bool) (first : Claim) (on : Place) (c : Condition) (fs : List ℕ) (y : Step)
+  of_features : (b : Bool) (first : Claim) (on : Place) (c : StepTargets) (fs : List ℕ) (y : Step)
       → Contains (flat_map (to_feature b first on c) fs) y → Keeps y
   of_features b first on c fs y is =
       let from = contains_flat_map (to_feature b first on c) fs y is in
@@ -161,7 +161,7 @@ module _ (build : Build) (packages : List Package) (graph : List units.Package) 
       of_either (active_steps build packages at unit (0 + r.0) d) (used_steps build packages at unit (0 + r.0) d) y
       (of_active at unit (0 + r.0) d y) (of_used at unit is (0 + r.0) d has y) r.4
 
-  of_named : (b : Bool) (at : Place) (from : Claim) (c : Condition) (named : Option ℕ) (y : Step)
+  of_named : (b : Bool) (at : Place) (from : Claim) (c : StepTargets) (named : Option ℕ) (y : Step)
       → Contains (named_steps b at from c named) y → Keeps y
   of_named b at from c None y (j, below, is) = absurd (omega (arith, below))
   of_named b at from c (Some f) y h = of_feature b from at c f y h
@@ -186,7 +186,7 @@ module _ (build : Build) (packages : List Package) (graph : List units.Package) 
   of_weak at unit from i g None y (j, below, is) = absurd (omega (arith, below))
   of_weak at unit from i g (Some d) y h = of_when _ _ y (λ _ h a b. tt) h
 
-  of_member : (at : Place) (unit : Package) (from : Claim) (m : Member) (y : Step)
+  of_member : (at : Place) (unit : Package) (from : Claim) (m : FeatureValue) (y : Step)
       → Contains (member_steps build packages at unit from m) y → Keeps y
   of_member at unit from (listed.Feature f) y h = of_when true _ y (λ _ h a b. tt) h
   of_member at unit from (listed.Dependency i) y h = of_when true _ y (λ _ h a b. tt) h
@@ -195,7 +195,7 @@ module _ (build : Build) (packages : List Package) (graph : List units.Package) 
   of_member at unit from (listed.Weak i g) y h =
       of_weak at unit from i g (slice_get unit.dependencies.items i) y h
 
-  of_listed : (at : Place) (unit : Package) (f : ℕ) (members : List Member) (y : Step)
+  of_listed : (at : Place) (unit : Package) (f : ℕ) (members : List FeatureValue) (y : Step)
       → Contains (feature_steps build packages at unit f members) y → Keeps y
   of_listed at unit f members y h =
       let from = claim.Feature at.index at.side f in
@@ -205,7 +205,7 @@ module _ (build : Build) (packages : List Package) (graph : List units.Package) 
   of_all_features : (at : Place) (unit : Package) (y : Step)
       → Contains (all_features build packages at unit) y → Keeps y
   of_all_features at unit y h =
-      let f = λ (i : ℕ) (members : Vec Member Global). feature_steps build packages at unit i members.items in
+      let f = λ (i : ℕ) (members : Vec FeatureValue Global). feature_steps build packages at unit i members.items in
       let r = in_each 0 f unit.features.items y h in
       of_listed at unit (0 + r.0) r.1.items y r.4
 

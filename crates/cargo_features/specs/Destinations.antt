@@ -7,10 +7,10 @@ use Rattle.package_graphs.specs.declared.packages.Kind.{Kind}
 use Rattle.package_graphs.specs.declared.packages.Kind.TheVariants as kinds
 use Rattle.package_graphs.specs.declared.sides.Side.{Side}
 use Rattle.package_graphs.specs.declared.sides.Side.TheVariants.{Target, Host}
-use Rattle.cargo_features.specs.declared.build.Build.{Build}
+use Rattle.cargo_features.specs.declared.build.BuildOptions.{BuildOptions}
 use Rattle.cargo_features.specs.declared.build.Destination.{Destination}
-use Rattle.cargo_features.specs.declared.claims.Condition.{Condition}
-use Rattle.cargo_features.specs.declared.claims.Condition.TheVariants.{Always, OfTarget, OfHost}
+use Rattle.cargo_features.specs.declared.claims.StepTargets.{StepTargets}
+use Rattle.cargo_features.specs.declared.claims.StepTargets.TheVariants.{Always, OfTarget, OfHost}
 use Rattle.cargo_features.specs.declared.packages.Dependency.{Dependency}
 use Rattle.cargo_features.specs.declared.packages.Package.{Package}
 
@@ -18,7 +18,7 @@ abbrev pub is_macro : List Package → ℕ → Bool
 is_macro packages p = slice_index_or (map (λ p. p.is_macro) packages) p false
 
 -- the conditions of what a build script and what the host needs are decided for the host
-abbrev pub condition : Bool → TargetSet → Condition
+abbrev pub condition : Bool → TargetSet → StepTargets
 condition true set = OfHost set
 condition false set = OfTarget set
 
@@ -31,26 +31,26 @@ destination packages from d = record {
 }
 
 -- if features are not kept apart by side, they are those of the target's side
-abbrev pub feature_side : Build → Side → Side
+abbrev pub feature_side : BuildOptions → Side → Side
 feature_side build from = cond build.by_side from Target
 
 -- and if they are not kept apart by target, every condition counts as true
-abbrev pub feature_destination : Build → List Package → Side → Dependency → Destination
+abbrev pub feature_destination : BuildOptions → List Package → Side → Dependency → Destination
 feature_destination build packages from d = record {
   side = feature_side build (destination packages from d).side;
   condition = cond build.by_target (destination packages from d).condition Always;
 }
 
 -- dev-dependencies are those of roots only
-abbrev pub counts_kind : Build → Bool → Kind → Bool
+abbrev pub counts_kind : BuildOptions → Bool → Kind → Bool
 counts_kind build is_root kinds.Normal = true
-counts_kind build is_root kinds.Build = true
+counts_kind build is_root kinds.BuildOptions = true
 counts_kind build is_root kinds.Dev = build.with_dev && is_root
 
-abbrev pub is_counted : Build → Package → Dependency → Bool
+abbrev pub is_counted : BuildOptions → Package → Dependency → Bool
 is_counted build unit d = counts_kind build unit.is_root d.kind
 
 -- the resolver starts with roots; with a root that is a procedural macro, on both sides
-abbrev pub begins_on : Build → Side → Package → Bool
+abbrev pub begins_on : BuildOptions → Side → Package → Bool
 begins_on build Target unit = unit.is_root
 begins_on build Host unit = unit.is_root && (build.by_side && unit.is_macro)

@@ -8,7 +8,7 @@ use Rattle.cargo_features.specs.Destinations.{is_macro}
 use Rattle.known_targets.specs.declared.known.KnownTarget.{KnownTarget}
 use Rattle.package_graphs.specs.declared.packages.Kinds.{Kinds}
 use Rattle.package_graphs.specs.declared.sides.Side.TheVariants.{Target}
-use Rattle.cargo_features.specs.declared.build.Build.{Build}
+use Rattle.cargo_features.specs.declared.build.BuildOptions.{BuildOptions}
 use Rattle.cargo_features.specs.declared.claims.Claim.{Claim}
 use Rattle.cargo_features.specs.declared.claims.Claim.TheVariants as claim
 use Rattle.cargo_features.specs.declared.packages.Dependency.{Dependency}
@@ -22,7 +22,7 @@ abbrev pub Graph : Type 0
 Graph = List units.Package
 
 abbrev pub Built : Type 0
-Built = Build
+Built = BuildOptions
 
 -- the package p of the graph has the dependency, whether it is optional or not
 pub record HasEdge (graph : List units.Package) (p : ℕ) (d : Dependency) : Type 0 where
@@ -46,11 +46,11 @@ pub record IsGraphOf (packages : List Package) (graph : List units.Package) : Ty
 
 -- ---- resolvers
 
-abbrev pub resolver_1 : Kinds → KnownTarget → Build
+abbrev pub resolver_1 : Kinds → KnownTarget → BuildOptions
 resolver_1 kinds host =
     record { kinds = kinds; host = host; by_target = false; by_side = false; with_dev = true }
 
-abbrev pub resolver_2 : Kinds → KnownTarget → Build
+abbrev pub resolver_2 : Kinds → KnownTarget → BuildOptions
 resolver_2 kinds host =
     record { kinds = kinds; host = host; by_target = true; by_side = true; with_dev = kinds.dev }
 

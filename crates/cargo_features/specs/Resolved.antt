@@ -7,7 +7,7 @@ use Rattle.cargo_features.specs.Steps.{gate}
 use Rattle.cargo_features.specs.Destinations.{destination, feature_side}
 use Rattle.cargo_features.specs.Inside.Numbered.{AreNumbers}
 use Rattle.cargo_features.specs.Inside.Exact.{has}
-use Rattle.cargo_features.specs.declared.build.Build.{Build}
+use Rattle.cargo_features.specs.declared.build.BuildOptions.{BuildOptions}
 use Rattle.cargo_features.specs.declared.claims.Claim.{Claim}
 use Rattle.cargo_features.specs.declared.claims.Claim.TheVariants as claim
 use Rattle.cargo_features.specs.declared.packages.Dependency.{Dependency}
@@ -25,7 +25,7 @@ is_built_with resolved p from f k =
     && holds_in resolved (claim.Feature p (feature_side resolved.build from) f) k
 
 -- it is the result for these packages and this build, and its numbers are those of the packages
-pub record IsResolved (units : List Package) (built : Build) (resolved : Resolved) : Type 0 where
+pub record IsResolved (units : List Package) (built : BuildOptions) (resolved : Resolved) : Type 0 where
   pub packages : resolved.packages.items ≡ units
   pub build : resolved.build ≡ built
   pub numbers : AreNumbers resolved.packages.items resolved.found.numbers

@@ -7,24 +7,24 @@ use Rattle.package_graphs.specs.Kinds.{is_followed}
 use Rattle.package_graphs.specs.declared.sides.Side.{Side}
 use Rattle.package_graphs.specs.declared.sides.Side.TheVariants.{Target, Host}
 use Rattle.cargo_features.specs.Destinations.{destination, feature_destination, feature_side, is_counted, begins_on}
-use Rattle.cargo_features.specs.declared.build.Build.{Build}
+use Rattle.cargo_features.specs.declared.build.BuildOptions.{BuildOptions}
 use Rattle.cargo_features.specs.declared.build.Destination.{Destination}
 use Rattle.cargo_features.specs.declared.claims.Claim.{Claim}
 use Rattle.cargo_features.specs.declared.claims.Claim.TheVariants as claim
-use Rattle.cargo_features.specs.declared.claims.Condition.{Condition}
-use Rattle.cargo_features.specs.declared.claims.Condition.TheVariants.{Always}
+use Rattle.cargo_features.specs.declared.claims.StepTargets.{StepTargets}
+use Rattle.cargo_features.specs.declared.claims.StepTargets.TheVariants.{Always}
 use Rattle.cargo_features.specs.declared.claims.Place.{Place}
 use Rattle.cargo_features.specs.declared.claims.Step.{Step}
 use Rattle.cargo_features.specs.declared.packages.Dependency.{Dependency}
-use Rattle.cargo_features.specs.declared.packages.Member.{Member}
-use Rattle.cargo_features.specs.declared.packages.Member.TheVariants as listed
+use Rattle.cargo_features.specs.declared.packages.FeatureValue.{FeatureValue}
+use Rattle.cargo_features.specs.declared.packages.FeatureValue.TheVariants as listed
 use Rattle.cargo_features.specs.declared.packages.Package.{Package}
 
 -- a step from one claim
-abbrev pub one : Claim → Claim → Condition → Step
+abbrev pub one : Claim → Claim → StepTargets → Step
 one first to condition = record { first = first; second = first; to = to; condition = condition }
 
-abbrev pub both : Claim → Claim → Claim → Condition → Step
+abbrev pub both : Claim → Claim → Claim → StepTargets → Step
 both first second to condition = record { first = first; second = second; to = to; condition = condition }
 
 -- the step, if `is_there`
@@ -41,7 +41,7 @@ abbrev pub gate : Place → ℕ → Dependency → Claim → Claim
 gate at i d otherwise = cond d.is_optional (claim.Dependency at.index at.side i) otherwise
 
 -- to a feature of a package
-abbrev pub to_feature : Bool → Claim → Place → Condition → ℕ → List Step
+abbrev pub to_feature : Bool → Claim → Place → StepTargets → ℕ → List Step
 to_feature is_there first on condition f =
     when is_there (one first (claim.Feature on.index on.side f) condition)
 
@@ -52,7 +52,7 @@ is_first_side Target unit = unit.is_root && not unit.is_macro
 is_first_side Host unit = unit.is_root && unit.is_macro
 
 -- it is active, with the features that are requested of it, and it is used
-abbrev pub root_steps : Build → Place → Package → List Step
+abbrev pub root_steps : BuildOptions → Place → Package → List Step
 root_steps build at unit =
     when (begins_on build at.side unit) (one claim.Requested (claim.Active at.index at.side) Always)
     ++ flat_map (to_feature (begins_on build at.side unit) claim.Requested at Always) unit.requested.items
@@ -61,14 +61,14 @@ root_steps build at unit =
 -- ---- a dependency
 
 -- where it leads for the feature resolver
-abbrev pub led_to : Build → List Package → Place → Dependency → Place
+abbrev pub led_to : BuildOptions → List Package → Place → Dependency → Place
 led_to build packages at d = record { index = d.to; side = (feature_destination build packages at.side d).side }
 
-abbrev pub led_where : Build → List Package → Place → Dependency → Condition
+abbrev pub led_where : BuildOptions → List Package → Place → Dependency → StepTargets
 led_where build packages at d = (feature_destination build packages at.side d).condition
 
 -- it makes its package active, with the features that it requests
-abbrev pub active_steps : Build → List Package → Place → Package → ℕ → Dependency → List Step
+abbrev pub active_steps : BuildOptions → List Package → Place → Package → ℕ → Dependency → List Step
 active_steps build packages at unit i d =
     when (is_counted build unit d)
     (one (gate at i d (claim.Active at.index at.side))
@@ -78,7 +78,7 @@ active_steps build packages at unit i d =
     (led_to build packages at d) (led_where build packages at d)) d.features.items
 
 -- its package is used; whether the dependency is on is decided on the side of the features
-abbrev pub used_steps : Build → List Package → Place → Package → ℕ → Dependency → List Step
+abbrev pub used_steps : BuildOptions → List Package → Place → Package → ℕ → Dependency → List Step
 used_steps build packages at unit i d =
     when (is_followed build.kinds unit.is_root d.kind)
     (both (claim.Used at.index at.side)
@@ -86,7 +86,7 @@ used_steps build packages at unit i d =
     (claim.Used d.to (destination packages at.side d).side)
     (destination packages at.side d).condition)
 
-abbrev pub dependency_steps : Build → List Package → Place → Package → List Step
+abbrev pub dependency_steps : BuildOptions → List Package → Place → Package → List Step
 dependency_steps build packages at unit =
     at_each 0 (λ i d. active_steps build packages at unit i d ++ used_steps build packages at unit i d)
     unit.dependencies.items
@@ -94,16 +94,16 @@ dependency_steps build packages at unit =
 -- ---- the list of a feature
 
 -- an optional dependency can be turned on
-abbrev pub turns_on : Build → Package → Dependency → Bool
+abbrev pub turns_on : BuildOptions → Package → Dependency → Bool
 turns_on build unit d = is_counted build unit d && d.is_optional
 
 -- the feature of the dependency's name, if there is one
-abbrev pub named_steps : Bool → Place → Claim → Condition → Option ℕ → List Step
+abbrev pub named_steps : Bool → Place → Claim → StepTargets → Option ℕ → List Step
 named_steps is_on at from condition None = []
 named_steps is_on at from condition (Some f) = to_feature is_on from at condition f
 
 -- `d/g`: the feature g of the package of d and, if d is optional, d itself and the feature of its name
-abbrev pub strong_at : Build → List Package → Place → Package → Claim → ℕ → ℕ → Option Dependency → List Step
+abbrev pub strong_at : BuildOptions → List Package → Place → Package → Claim → ℕ → ℕ → Option Dependency → List Step
 strong_at build packages at unit from i g None = []
 strong_at build packages at unit from i g (Some d) =
     to_feature (is_counted build unit d) from (led_to build packages at d) (led_where build packages at d) g
@@ -111,12 +111,12 @@ strong_at build packages at unit from i g (Some d) =
     (one from (claim.Dependency at.index at.side i) (led_where build packages at d))
     ++ named_steps (turns_on build unit d) at from (led_where build packages at d) d.named
 
-abbrev pub strong_steps : Build → List Package → Place → Package → Claim → ℕ → ℕ → List Step
+abbrev pub strong_steps : BuildOptions → List Package → Place → Package → Claim → ℕ → ℕ → List Step
 strong_steps build packages at unit from i g =
     strong_at build packages at unit from i g (slice_get unit.dependencies.items i)
 
 -- `d?/g`: the feature g of the package of d, which has to be on if it is optional
-abbrev pub weak_at : Build → List Package → Place → Package → Claim → ℕ → ℕ → Option Dependency → List Step
+abbrev pub weak_at : BuildOptions → List Package → Place → Package → Claim → ℕ → ℕ → Option Dependency → List Step
 weak_at build packages at unit from i g None = []
 weak_at build packages at unit from i g (Some d) =
     when (is_counted build unit d)
@@ -124,12 +124,12 @@ weak_at build packages at unit from i g (Some d) =
     (claim.Feature (led_to build packages at d).index (led_to build packages at d).side g)
     (led_where build packages at d))
 
-abbrev pub weak_steps : Build → List Package → Place → Package → Claim → ℕ → ℕ → List Step
+abbrev pub weak_steps : BuildOptions → List Package → Place → Package → Claim → ℕ → ℕ → List Step
 weak_steps build packages at unit from i g =
     weak_at build packages at unit from i g (slice_get unit.dependencies.items i)
 
 -- a feature, `dep:d`, `d/g`, or `d?/g`
-abbrev pub member_steps : Build → List Package → Place → Package → Claim → Member → List Step
+abbrev pub member_steps : BuildOptions → List Package → Place → Package → Claim → FeatureValue → List Step
 member_steps build packages at unit from (listed.Feature f) =
     when true (one from (claim.Feature at.index at.side f) Always)
 member_steps build packages at unit from (listed.Dependency i) =
@@ -138,24 +138,24 @@ member_steps build packages at unit from (listed.Strong i g) = strong_steps buil
 member_steps build packages at unit from (listed.Weak i g) = weak_steps build packages at unit from i g
 
 -- a feature turns on what it lists
-abbrev pub feature_steps : Build → List Package → Place → Package → ℕ → List Member → List Step
+abbrev pub feature_steps : BuildOptions → List Package → Place → Package → ℕ → List FeatureValue → List Step
 feature_steps build packages at unit f members =
     flat_map (member_steps build packages at unit (claim.Feature at.index at.side f)) members
 
-abbrev pub all_features : Build → List Package → Place → Package → List Step
+abbrev pub all_features : BuildOptions → List Package → Place → Package → List Step
 all_features build packages at unit =
     at_each 0 (λ f members. feature_steps build packages at unit f members.items) unit.features.items
 
 -- ---- a package on a side, and all of them
 
-abbrev pub steps_of : Build → List Package → Place → Package → List Step
+abbrev pub steps_of : BuildOptions → List Package → Place → Package → List Step
 steps_of build packages at unit =
     root_steps build at unit ++ dependency_steps build packages at unit ++ all_features build packages at unit
 
-abbrev pub steps_on_both : Build → List Package → ℕ → Package → List Step
+abbrev pub steps_on_both : BuildOptions → List Package → ℕ → Package → List Step
 steps_on_both build packages p unit =
     steps_of build packages (record { index = p; side = Target }) unit
     ++ steps_of build packages (record { index = p; side = Host }) unit
 
-abbrev pub all_steps : Build → List Package → List Step
+abbrev pub all_steps : BuildOptions → List Package → List Step
 all_steps build packages = at_each 0 (λ p unit. steps_on_both build packages p unit) packages

@@ -5,14 +5,14 @@ ghost use Rattle.cargo_features.specs.Graphs.{resolver_1, resolver_2};
 ghost use Rattle.cargo_features.specs.Destinations.{is_macro, destination, feature_destination, feature_side};
 ghost use Rattle.cargo_features.specs.Destinations.{is_counted, begins_on};
 
-use crate::claims::Condition;
+use crate::claims::StepTargets;
 use crate::packages::{Dependency, Package};
 use known_targets::KnownTarget;
 use package_graphs::{Kind, Kinds, Side};
 
-/// A build, and how far it keeps features apart.
+/// The options of a build: its host, the dependency kinds that it follows, and which features it keeps apart.
 #[derive(Clone, Copy, Drop)]
-pub struct Build {
+pub struct BuildOptions {
     /// The dependency kinds that are followed.
     pub kinds: Kinds,
     pub host: KnownTarget,
@@ -28,7 +28,7 @@ pub struct Build {
 #[derive(Clone, Copy, Drop)]
 pub struct Destination {
     pub side: Side,
-    pub condition: Condition,
+    pub condition: StepTargets,
 }
 
 /// Returns whether the package at an index is a procedural macro. There is none past the end.
@@ -41,13 +41,13 @@ fn is_macro(packages: &[Package], index: usize) -> bool
     }
 }
 
-impl Build {
+impl BuildOptions {
     /// Returns the build of Cargo's resolver 1: a package has the same features everywhere.
-    pub fn by_resolver_1(kinds: Kinds, host: KnownTarget) -> Build
+    pub fn by_resolver_1(kinds: Kinds, host: KnownTarget) -> BuildOptions
         // The build keeps features apart as the resolver does.
         ensures { result ≡ resolver_1 kinds host }
     {
-        Build {
+        BuildOptions {
             kinds,
             host,
             by_target: false,
@@ -58,11 +58,11 @@ impl Build {
 
     /// Returns the build of Cargo's resolvers 2 and 3, which keep features apart in the same way (see [feature resolver
     /// version 2](https://doc.rust-lang.org/cargo/reference/features.html#feature-resolver-version-2)).
-    pub fn by_resolver_2(kinds: Kinds, host: KnownTarget) -> Build
+    pub fn by_resolver_2(kinds: Kinds, host: KnownTarget) -> BuildOptions
         // The build keeps features apart as the resolver does.
         ensures { result ≡ resolver_2 kinds host }
     {
-        Build {
+        BuildOptions {
             kinds,
             host,
             by_target: true,
@@ -83,9 +83,9 @@ impl Build {
         Destination {
             side: from.after(dependency.kind, is_macro(packages, dependency.to)),
             condition: if from.is_evaluated_on_host(dependency.kind) {
-                Condition::OfHost(dependency.holds)
+                StepTargets::OfHost(dependency.holds)
             } else {
-                Condition::OfTarget(dependency.holds)
+                StepTargets::OfTarget(dependency.holds)
             },
         }
     }
@@ -105,7 +105,7 @@ impl Build {
             condition: if self.by_target {
                 end.condition
             } else {
-                Condition::Always
+                StepTargets::Always
             },
         }
     }
@@ -123,7 +123,7 @@ impl Build {
     {
         match dependency.kind {
             Kind::Normal => true,
-            Kind::Build => true,
+            Kind::BuildOptions => true,
             Kind::Dev => self.with_dev && unit.is_root,
         }
     }

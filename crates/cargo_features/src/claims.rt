@@ -34,7 +34,7 @@ pub struct Place {
 
 /// The targets on which a step applies.
 #[derive(Clone, Copy, Drop)]
-pub enum Condition {
+pub enum StepTargets {
     Always,
     /// On the targets of the set.
     OfTarget(TargetSet),
@@ -48,7 +48,7 @@ pub struct Step {
     pub first: Claim,
     pub second: Claim,
     pub to: Claim,
-    pub condition: Condition,
+    pub condition: StepTargets,
 }
 
 /// The claim and the condition from which steps start. If `is_there` is false, there are no steps.
@@ -56,12 +56,12 @@ pub struct Step {
 pub struct Origin {
     pub is_there: bool,
     pub from: Claim,
-    pub condition: Condition,
+    pub condition: StepTargets,
 }
 
 impl Step {
     /// Returns a step from one claim.
-    pub fn from_one(first: Claim, to: Claim, condition: Condition) -> Step
+    pub fn from_one(first: Claim, to: Claim, condition: StepTargets) -> Step
         ensures { result ≡ one first to condition }
     {
         Step {
@@ -73,15 +73,15 @@ impl Step {
     }
 }
 
-impl Condition {
+impl StepTargets {
     /// Returns the targets on which a step with this condition applies.
     pub fn targets(self, host: KnownTarget) -> TargetSet
         ensures { (k : ℕ) → k < COUNT → is_member result k ≡ holds_at host k self }
     {
         match self {
-            Condition::Always => TargetSet::all(),
-            Condition::OfTarget(set) => set,
-            Condition::OfHost(set) => {
+            StepTargets::Always => TargetSet::all(),
+            StepTargets::OfTarget(set) => set,
+            StepTargets::OfHost(set) => {
                 if set.contains(host) {
                     TargetSet::all()
                 } else {

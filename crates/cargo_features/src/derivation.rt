@@ -12,12 +12,11 @@ use known_targets::TargetSet;
 use std::alloc::{AllocError, Global};
 use std::collections::VecDeque;
 
-/// Returns for each fact the targets on which it follows: it is given there, or a rule that applies there leads to it
-/// from facts that follow there.
+/// Returns the targets on which each fact follows from the given ones by the rules. A fact follows on a target if it is
+/// given there, or if a rule that applies there leads to it from facts that follow there.
 ///
-/// There are as many facts as given sets. A rule that names a number past these leads to no fact. Fails only if an
-/// allocation fails.
-pub fn derived(
+/// Facts are indexes of `given`. A rule with an index past its end leads to no fact. Fails only if an allocation fails.
+pub fn derive_targets(
     alloc: Global,
     given: Vec<TargetSet>,
     rules: &[Rule],

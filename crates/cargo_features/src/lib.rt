@@ -15,9 +15,9 @@ mod rules;
 mod rules_by_premise;
 mod steps;
 
-pub use build::Build;
-pub use claims::{Claim, Condition};
-pub use derivation::derived;
-pub use packages::{Dependency, Member, Package};
+pub use build::BuildOptions;
+pub use claims::{Claim, StepTargets};
+pub use derivation::derive_targets;
+pub use packages::{Dependency, FeatureValue, Package};
 pub use resolved::{Resolved, resolve, used_packages};
 pub use rules::Rule;

@@ -22,7 +22,7 @@ pub struct Dependency {
 /// An entry in the list of a feature (see [dependency
 /// features](https://doc.rust-lang.org/cargo/reference/features.html#dependency-features)).
 #[derive(Clone, Copy, Drop)]
-pub enum Member {
+pub enum FeatureValue {
     /// `f`: the feature at this index.
     Feature(usize),
     /// `dep:d`: the dependency at this index.
@@ -42,7 +42,7 @@ pub struct Package {
     pub is_macro: bool,
     pub dependencies: Vec<Dependency>,
     /// The list of each of its features.
-    pub features: Vec<Vec<Member>>,
+    pub features: Vec<Vec<FeatureValue>>,
     /// The features that are requested of the package if it is a root.
     pub requested: Vec<usize>,
 }

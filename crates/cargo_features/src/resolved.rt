@@ -14,9 +14,9 @@ ghost use Rattle.package_graphs.specs.Packages.{is_same};
 ghost use Rattle.cargo_features.specs.declared.claims.Claim.{Claim};
 ghost use Rattle.cargo_features.specs.declared.claims.Step.{Step};
 
-use crate::build::Build;
+use crate::build::BuildOptions;
 use crate::claims::{Claim, Place, Step};
-use crate::derivation::derived;
+use crate::derivation::derive_targets;
 use crate::numbers::Numbers;
 use crate::packages::{Dependency, Package};
 use crate::rules::Rule;
@@ -32,7 +32,7 @@ pub struct Numbered {
 }
 
 /// Returns the rule of a step.
-fn rule_of(numbers: &Numbers, packages: &[Package], build: Build, step: Step) -> Rule
+fn rule_of(numbers: &Numbers, packages: &[Package], build: BuildOptions, step: Step) -> Rule
     requires { AreNumbers packages.now numbers.now }
     ensures { IsNumbered packages.now build.host step result }
 {
@@ -48,7 +48,7 @@ fn rule_of(numbers: &Numbers, packages: &[Package], build: Build, step: Step) ->
 fn add_rules(
     numbers: &Numbers,
     packages: &[Package],
-    build: Build,
+    build: BuildOptions,
     steps: &[Step],
     rules: &mut Vec<Rule>,
 ) -> Result<(), AllocError>
@@ -67,7 +67,7 @@ fn all_rules(
     alloc: Global,
     numbers: &Numbers,
     packages: &[Package],
-    build: Build,
+    build: BuildOptions,
 ) -> Result<Vec<Rule>, AllocError>
     requires { AreNumbers packages.now numbers.now }
     ensures { IfOk result (λ rules. AreNumbered packages.now build.host (all_steps build packages.now) rules.items) }
@@ -84,7 +84,7 @@ fn all_rules(
 fn steps_on_both(
     alloc: Global,
     packages: &[Package],
-    build: Build,
+    build: BuildOptions,
     index: usize,
     unit: &Package,
 ) -> Result<Vec<Step>, AllocError>
@@ -105,14 +105,18 @@ fn steps_on_both(
 }
 
 /// Returns the targets on which each claim about the packages holds.
-fn exact_sets(alloc: Global, packages: &[Package], build: Build) -> Result<Numbered, AllocError>
+fn exact_sets(
+    alloc: Global,
+    packages: &[Package],
+    build: BuildOptions,
+) -> Result<Numbered, AllocError>
     ensures { IfOk result (λ found. IsExact build packages.now found) }
 {
     let numbers = Numbers::new(alloc, packages)?;
     let rules = all_rules(alloc, &numbers, packages, build)?;
     let mut given = vec![in alloc; TargetSet::none(); numbers.count()]?;
     given[0] = TargetSet::all();
-    let sets = derived(alloc, given, &rules)?;
+    let sets = derive_targets(alloc, given, &rules)?;
     Ok(Numbered { numbers, sets })
 }
 
@@ -144,7 +148,7 @@ impl Numbered {
 pub fn used_packages(
     alloc: Global,
     packages: &[Package],
-    build: Build,
+    build: BuildOptions,
 ) -> Result<Vec<TargetSet>, AllocError>
     // Each package has a set.
     ensures count { IfOk result (λ sets. vec_len sets ≡ length packages.now) }
@@ -164,13 +168,17 @@ pub fn used_packages(
 #[derive(Drop)]
 pub struct Resolved {
     packages: Vec<Package>,
-    build: Build,
+    build: BuildOptions,
     found: Numbered,
 }
 
 /// Returns the targets on which each claim about the packages holds. Whatever names no package, feature or dependency
 /// is ignored. Fails if an allocation fails, or if there are too many claims to number.
-pub fn resolve(alloc: Global, packages: Vec<Package>, build: Build) -> Result<Resolved, AllocError>
+pub fn resolve(
+    alloc: Global,
+    packages: Vec<Package>,
+    build: BuildOptions,
+) -> Result<Resolved, AllocError>
     // The result has these packages and this build.
     ensures same { IfOk result (λ resolved. IsResolved packages.items build resolved) }
     // A target is in the set of a claim exactly if steps from the request for the build lead there.
@@ -194,7 +202,7 @@ impl Resolved {
     }
 
     /// Returns the build.
-    pub fn build(&self) -> Build
+    pub fn build(&self) -> BuildOptions
         ensures { result ≡ self.now.build }
     {
         self.build

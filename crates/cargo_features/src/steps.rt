@@ -6,9 +6,9 @@ ghost use Rattle.cargo_features.specs.Steps.{gate, is_first_side, root_steps, ac
 ghost use Rattle.cargo_features.specs.Steps.{strong_steps, weak_steps, member_steps, dependency_steps, feature_steps};
 ghost use Rattle.cargo_features.specs.Steps.{all_features, steps_of, strong_at, weak_at, named_steps};
 
-use crate::build::Build;
-use crate::claims::{Claim, Condition, Origin, Place, Step, add, add_features};
-use crate::packages::{Dependency, Member, Package};
+use crate::build::BuildOptions;
+use crate::claims::{Claim, Origin, Place, Step, StepTargets, add, add_features};
+use crate::packages::{Dependency, FeatureValue, Package};
 use package_graphs::Side;
 use std::alloc::AllocError;
 
@@ -78,7 +78,7 @@ fn add_named(
     }
 }
 
-impl Build {
+impl BuildOptions {
     /// Appends the steps of a root: it is active, with the features that are requested of it, and it is used.
     fn root(self, at: Place, unit: &Package, steps: &mut Vec<Step>) -> Result<(), AllocError>
         ensures { OnOk result (steps.new.items ≡ steps.old.items ++ root_steps self at unit.now) }
@@ -88,16 +88,16 @@ impl Build {
         add(
             steps,
             begins,
-            Step::from_one(Claim::Requested, active, Condition::Always),
+            Step::from_one(Claim::Requested, active, StepTargets::Always),
         )?;
         let origin = Origin {
             is_there: begins,
             from: Claim::Requested,
-            condition: Condition::Always,
+            condition: StepTargets::Always,
         };
         add_features(steps, origin, at, &unit.requested)?;
         let used = Claim::Used(at.index, at.side);
-        let step = Step::from_one(Claim::Requested, used, Condition::Always);
+        let step = Step::from_one(Claim::Requested, used, StepTargets::Always);
         add(steps, is_first_side(at.side, unit), step)?;
         Ok(())
     }
@@ -271,22 +271,22 @@ impl Build {
         self,
         unit: Unit<'_>,
         from: Claim,
-        member: Member,
+        member: FeatureValue,
         steps: &mut Vec<Step>,
     ) -> Result<(), AllocError>
         ensures { OnOk result (steps.new.items
             ≡ steps.old.items ++ member_steps self unit.entry.packages.now unit.entry.at unit.entry.package.now from member) }
     {
         match member {
-            Member::Feature(feature) => {
+            FeatureValue::Feature(feature) => {
                 let to = Claim::Feature(unit.at.index, unit.at.side, feature);
-                add(steps, true, Step::from_one(from, to, Condition::Always))
+                add(steps, true, Step::from_one(from, to, StepTargets::Always))
             }
-            Member::Dependency(place) => {
+            FeatureValue::Dependency(place) => {
                 let to = Claim::Dependency(unit.at.index, unit.at.side, place);
-                add(steps, true, Step::from_one(from, to, Condition::Always))
+                add(steps, true, Step::from_one(from, to, StepTargets::Always))
             }
-            Member::Strong(place, feature) => {
+            FeatureValue::Strong(place, feature) => {
                 let entry = FeatureEntry {
                     from,
                     place,
@@ -294,7 +294,7 @@ impl Build {
                 };
                 self.strong(unit, entry, steps)
             }
-            Member::Weak(place, feature) => {
+            FeatureValue::Weak(place, feature) => {
                 let entry = FeatureEntry {
                     from,
                     place,
@@ -322,7 +322,7 @@ impl Build {
         self,
         unit: Unit<'_>,
         place: usize,
-        members: &[Member],
+        members: &[FeatureValue],
         steps: &mut Vec<Step>,
     ) -> Result<(), AllocError>
         ensures { OnOk result (steps.new.items

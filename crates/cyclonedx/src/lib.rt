@@ -13,11 +13,11 @@ mod sources;
 
 pub use lock::{LockFile, LockedPackage};
 pub use model::{
-    Bom, BomMetadata, Component, ExternalReference, Hash, LicenceChoice, LicenceName, LicenceText,
-    NamedLicence, Property, ToolComponent, Tools,
+    Bom, BomMetadata, Component, ExternalReference, Hash, LicenceChoice, LicenceName, NamedLicence,
+    Property, SpdxExpression, ToolComponent, Tools,
 };
 pub use purl::package_url;
-pub use reading::{LockError, LockFault, read_lock};
+pub use reading::{LockFileError, LockFileFault, parse_lock_file};
 pub use relations::{Edge, Node, Relation, relations_of};
 pub use serial::serial_number;
 pub use sources::Source;

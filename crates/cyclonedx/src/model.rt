@@ -88,13 +88,13 @@ pub struct Hash {
 #[derive(Drop, Serialize)]
 #[serde(untagged)]
 pub enum LicenceChoice<'a> {
-    Expression(LicenceText),
+    Expression(SpdxExpression),
     Named(NamedLicence<'a>),
 }
 
 /// An SPDX expression in canonical form, all of whose identifiers SPDX knows.
 #[derive(Drop, Serialize)]
-pub struct LicenceText {
+pub struct SpdxExpression {
     pub expression: String,
 }
 

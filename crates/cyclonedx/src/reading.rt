@@ -6,7 +6,7 @@ use toml::{Table, Value, table_from_str};
 
 /// An error of a lock file.
 #[derive(Drop)]
-pub struct LockFault {
+pub struct LockFileFault {
     pub message: String,
     /// The first byte at fault and the byte after the last one, if they are known.
     pub span: Option<(usize, usize)>,
@@ -14,14 +14,14 @@ pub struct LockFault {
 
 /// The reason why a text cannot be read as a lock file.
 #[derive(Drop)]
-pub enum LockError {
-    Fault(LockFault),
+pub enum LockFileError {
+    Fault(LockFileFault),
     Memory(AllocError),
 }
 
-impl From<AllocError> for LockError {
-    fn from(refused: AllocError) -> LockError {
-        LockError::Memory(refused)
+impl From<AllocError> for LockFileError {
+    fn from(refused: AllocError) -> LockFileError {
+        LockFileError::Memory(refused)
     }
 }
 
@@ -32,18 +32,18 @@ const NEWEST: i64 = 4;
 const HEADER: &str = "[[package]]";
 
 /// Returns the error with this message at a span.
-fn fault(alloc: Global, message: &str, span: Option<(usize, usize)>) -> LockError {
+fn fault(alloc: Global, message: &str, span: Option<(usize, usize)>) -> LockFileError {
     match String::from_str(alloc, message) {
-        Ok(message) => LockError::Fault(LockFault { message, span }),
-        Err(refused) => LockError::Memory(refused),
+        Ok(message) => LockFileError::Fault(LockFileFault { message, span }),
+        Err(refused) => LockFileError::Memory(refused),
     }
 }
 
 /// Returns the error for a text that is not TOML, or for memory that was refused.
-fn no_toml(alloc: Global, error: &toml::de::Error) -> LockError {
+fn no_toml(alloc: Global, error: &toml::de::Error) -> LockFileError {
     match error.span() {
         Some(span) => fault(alloc, error.message(), Some((span.start, span.end))),
-        None => LockError::Memory(AllocError),
+        None => LockFileError::Memory(AllocError),
     }
 }
 
@@ -163,7 +163,7 @@ fn add_entry(
 }
 
 /// Returns the packages of a lock file's table, whose text is `text`.
-fn packages_of(alloc: Global, table: &Table, text: &str) -> Result<LockFile, LockError> {
+fn packages_of(alloc: Global, table: &Table, text: &str) -> Result<LockFile, LockFileError> {
     let mut lock = LockFile::new(alloc);
     let Some(packages) = table.get("package") else {
         return Err(fault(alloc, "the lock file has no `[[package]]`", None));
@@ -200,7 +200,7 @@ fn is_known_version(table: &Table) -> bool {
 /// Fails if the text is not TOML, if its version is not known, if a package has no name or version, if a source or a
 /// checksum is not a text, if a checksum is not a SHA-256, if two packages have the same name, version and source, and
 /// if memory is refused.
-pub fn read_lock(alloc: Global, text: &str) -> Result<LockFile, LockError> {
+pub fn parse_lock_file(alloc: Global, text: &str) -> Result<LockFile, LockFileError> {
     match table_from_str(alloc, text) {
         Ok(table) if is_known_version(&table) => packages_of(alloc, &table, text),
         Ok(_) => Err(fault(alloc, "lock files of this version are not supported", None)),

@@ -6,7 +6,7 @@ use Rattle.std.specs.Global.{Global}
 use Rattle.std.proofs.lemmas.Bool.{cases_lt}
 use Rattle.std.proofs.lemmas.List.{take_more, take_all, length-take, length-take-le}
 use Rattle.std.proofs.lemmas.Option.{slice_get_within, slice_get_cases, slice_get_past}
-use Rattle.cargo_features.specs.declared.packages.Member.{Member}
+use Rattle.cargo_features.specs.declared.packages.FeatureValue.{FeatureValue}
 use Rattle.cargo_features.specs.declared.packages.Package.{Package}
 use Rattle.declared_features.specs.Lists.{HasJust}
 use Rattle.declared_features.specs.Manifests.{feature_index, features_in, features_at}
@@ -24,7 +24,7 @@ use Rattle.declared_features.specs.declared.declaring.Row.{Row}
 use Rattle.declared_features.specs.declared.entries.FeatureEntry.{FeatureEntry}
 use Rattle.declared_features.specs.declared.linking.Names.{Names}
 use Rattle.declared_features.specs.declared.linking.RequestedFeatures.{RequestedFeatures}
-use Rattle.declared_features.specs.declared.manifests.Declared.{Declared}
+use Rattle.declared_features.specs.declared.manifests.ExpectedCfgs.{ExpectedCfgs}
 use Rattle.declared_features.specs.declared.manifests.Feature.{Feature}
 use Rattle.cargo_metadata.specs.declared.indexes.Indexes.{Indexes}
 use Rattle.declared_features.proofs.Collecting.{some_same}
@@ -95,11 +95,11 @@ names_all declarations n names past below node q =
 
 -- ---- links of edges to declared dependencies
 
-abbrev pair_of : Row → Declared → Row × Declared
+abbrev pair_of : Row → ExpectedCfgs → Row × ExpectedCfgs
 pair_of row declared = (row, declared)
 
-pub link_first : (graph : DeclaredGraph) (node : ℕ) (rows : List Row) (i : ℕ) (declared : List Declared)
-    (link : Row × Declared) → IsLinkBelow graph node rows i declared 0 link
+pub link_first : (graph : DeclaredGraph) (node : ℕ) (rows : List Row) (i : ℕ) (declared : List ExpectedCfgs)
+    (link : Row × ExpectedCfgs) → IsLinkBelow graph node rows i declared 0 link
     → IsLink graph node (take i rows) declared link
 link_first graph node rows i declared link below =
     elim below [
@@ -108,9 +108,9 @@ link_first graph node rows i declared link below =
     ]
 
 -- one more declared dependency, to which the edge belongs
-pub link_more : (graph : DeclaredGraph) (node : ℕ) (rows : List Row) (i : ℕ) (row : Row) (declared : List Declared)
+pub link_more : (graph : DeclaredGraph) (node : ℕ) (rows : List Row) (i : ℕ) (row : Row) (declared : List ExpectedCfgs)
     (j : ℕ)
-    (d : Declared) → slice_get rows i ≡ Some row → slice_get declared j ≡ Some d → (link : Row × Declared)
+    (d : ExpectedCfgs) → slice_get rows i ≡ Some row → slice_get declared j ≡ Some d → (link : Row × ExpectedCfgs)
     → IsLinkBelow graph node rows i declared (j + 1) link
     → IsLinkBelow graph node rows i declared j link ⊎ (((row, d) ≡ link) × IsOf graph node row d)
 link_more graph node rows i row declared j d row_at d_at (r, e) below =
@@ -123,17 +123,17 @@ link_more graph node rows i row declared j d row_at d_at (r, e) below =
             | inr last ↦
                 let same : row ≡ r = some_same row r (sym row_at ∙ at.row_is) in
                 let pair : pair_of row d ≡ pair_of r e =
-                ap (λ (x : Row). pair_of x d) same ∙ ap (λ (y : Declared). pair_of r y) last in
+                ap (λ (x : Row). pair_of x d) same ∙ ap (λ (y : ExpectedCfgs). pair_of r y) last in
                 inr (
                   pair,
                   subst (λ (x : Row). IsOf graph node x d) (sym same)
-                      (subst (λ (x : Declared). IsOf graph node r x) (sym last) at.belongs),
+                      (subst (λ (x : ExpectedCfgs). IsOf graph node r x) (sym last) at.belongs),
                 )
           ]
     ]
 
-pub link_before : (graph : DeclaredGraph) (node : ℕ) (rows : List Row) (i : ℕ) (declared : List Declared) (j : ℕ)
-    (d : Declared) → slice_get declared j ≡ Some d → (link : Row × Declared)
+pub link_before : (graph : DeclaredGraph) (node : ℕ) (rows : List Row) (i : ℕ) (declared : List ExpectedCfgs) (j : ℕ)
+    (d : ExpectedCfgs) → slice_get declared j ≡ Some d → (link : Row × ExpectedCfgs)
     → IsLinkBelow graph node rows i declared j link → IsLinkBelow graph node rows i declared (j + 1) link
 link_before graph node rows i declared j d d_at link below =
     elim below [
@@ -145,18 +145,18 @@ link_before graph node rows i declared j d d_at link below =
       })
     ]
 
-pub link_here : (graph : DeclaredGraph) (node : ℕ) (rows : List Row) (i : ℕ) (row : Row) (declared : List Declared)
+pub link_here : (graph : DeclaredGraph) (node : ℕ) (rows : List Row) (i : ℕ) (row : Row) (declared : List ExpectedCfgs)
     (j : ℕ)
-    (d : Declared) → slice_get rows i ≡ Some row → slice_get declared j ≡ Some d → IsOf graph node row d
-    → (link : Row × Declared) → (row, d) ≡ link → IsLinkBelow graph node rows i declared (j + 1) link
+    (d : ExpectedCfgs) → slice_get rows i ≡ Some row → slice_get declared j ≡ Some d → IsOf graph node row d
+    → (link : Row × ExpectedCfgs) → (row, d) ≡ link → IsLinkBelow graph node rows i declared (j + 1) link
 link_here graph node rows i row declared j d row_at d_at belongs link same =
-    subst (λ (l : Row × Declared). IsLinkBelow graph node rows i declared (j + 1) l) same
+    subst (λ (l : Row × ExpectedCfgs). IsLinkBelow graph node rows i declared (j + 1) l) same
     (inr (record { row_is = row_at; declared_is = taken_here declared j d d_at; belongs = belongs }))
 
 -- all declared dependencies of one more row
-pub link_row : (graph : DeclaredGraph) (node : ℕ) (rows : List Row) (i : ℕ) (row : Row) (declared : List Declared)
+pub link_row : (graph : DeclaredGraph) (node : ℕ) (rows : List Row) (i : ℕ) (row : Row) (declared : List ExpectedCfgs)
     (j : ℕ)
-    → slice_get rows i ≡ Some row → length declared ≤ j → (link : Row × Declared)
+    → slice_get rows i ≡ Some row → length declared ≤ j → (link : Row × ExpectedCfgs)
     → IsLinkBelow graph node rows i declared j link → IsLink graph node (take (i + 1) rows) declared link
 link_row graph node rows i row declared j row_at past link below =
     elim below [
@@ -168,14 +168,14 @@ link_row graph node rows i row declared j row_at past link below =
       | inr at ↦ record {
         row_is = taken_here rows i link.0 at.row_is;
         declared_is =
-            subst (λ (l : List Declared). Contains l link.1) (take_all j declared past) at.declared_is;
+            subst (λ (l : List ExpectedCfgs). Contains l link.1) (take_all j declared past) at.declared_is;
         belongs = at.belongs;
       }
     ]
 
-pub row_link : (graph : DeclaredGraph) (node : ℕ) (rows : List Row) (i : ℕ) (row : Row) (declared : List Declared)
+pub row_link : (graph : DeclaredGraph) (node : ℕ) (rows : List Row) (i : ℕ) (row : Row) (declared : List ExpectedCfgs)
     (j : ℕ)
-    → slice_get rows i ≡ Some row → length declared ≤ j → (link : Row × Declared)
+    → slice_get rows i ≡ Some row → length declared ≤ j → (link : Row × ExpectedCfgs)
     → IsLink graph node (take (i + 1) rows) declared link → IsLinkBelow graph node rows i declared j link
 row_link graph node rows i row declared j row_at past link is =
     elim (taken rows i row link.0 row_at is.row_is) [
@@ -183,36 +183,36 @@ row_link graph node rows i row declared j row_at past link is =
       | inr here ↦ inr (record {
         row_is = row_at ∙ ap (λ (r : Row). Some r) here;
         declared_is =
-            subst (λ (l : List Declared). Contains l link.1) (sym (take_all j declared past)) is.declared_is;
+            subst (λ (l : List ExpectedCfgs). Contains l link.1) (sym (take_all j declared past)) is.declared_is;
         belongs = is.belongs;
       })
     ]
 
 -- ---- the lists of features
 
-pub lists_none : (IsMember : List FeatureEntry → Member → Type 0) (features : List Feature) (lists : List
-    (Vec Member Global))
+pub lists_none : (IsMember : List FeatureEntry → FeatureValue → Type 0) (features : List Feature) (lists : List
+    (Vec FeatureValue Global))
     → HasListsOf IsMember (take 0 features) lists
 lists_none IsMember features lists = record {
   each = λ k f is. absurd (let h = slice_get_within (take 0 features) k f is in omega
       (arith, h, length-take 0 features));
 }
 
-pub lists_grown : (IsMember : List FeatureEntry → Member → Type 0) (features : List Feature)
-    (lists new more : List (Vec Member Global)) → new ≡ lists ++ more → HasListsOf IsMember features lists
+pub lists_grown : (IsMember : List FeatureEntry → FeatureValue → Type 0) (features : List Feature)
+    (lists new more : List (Vec FeatureValue Global)) → new ≡ lists ++ more → HasListsOf IsMember features lists
     → HasListsOf IsMember features new
 lists_grown IsMember features lists new more is has = record {
   each = λ k f at.
       let it = has.each k f at in (
         it.0,
-        subst (λ (l : List (Vec Member Global)). slice_get l k ≡ Some it.0) (sym is) (get_grown lists more k it.0 it.1),
+        subst (λ (l : List (Vec FeatureValue Global)). slice_get l k ≡ Some it.0) (sym is) (get_grown lists more k it.0 it.1),
         it.2,
       );
 }
 
 -- one more list, if the package is concerned
-pub last_pushed : (concerned : Bool) (IsLast : List Member → Type 0) (count : ℕ) (lists new : List (Vec Member Global))
-    (members : Vec Member Global) → concerned ≡ true → length lists ≡ count → new ≡ lists ++ members ∷ []
+pub last_pushed : (concerned : Bool) (IsLast : List FeatureValue → Type 0) (count : ℕ) (lists new : List (Vec FeatureValue Global))
+    (members : Vec FeatureValue Global) → concerned ≡ true → length lists ≡ count → new ≡ lists ++ members ∷ []
     → IsLast members.items → HasLast concerned IsLast count new
 last_pushed concerned IsLast count lists new members is same pushed last = record {
   lengths =
@@ -220,21 +220,21 @@ last_pushed concerned IsLast count lists new members is same pushed last = recor
       ∙ sym (ap (λ (b : Bool). cond b (count + 1) count) is);
   last = λ e. (
     members,
-    ap (λ (l : List (Vec Member Global)). slice_get l count) pushed
+    ap (λ (l : List (Vec FeatureValue Global)). slice_get l count) pushed
         ∙ ap (λ (n : ℕ). slice_get (lists ++ members ∷ []) n) (sym same) ∙ get_last lists members,
     last,
   );
 }
 
-pub none_pushed : (concerned : Bool) (IsLast : List Member → Type 0) (count : ℕ) (lists : List (Vec Member Global))
+pub none_pushed : (concerned : Bool) (IsLast : List FeatureValue → Type 0) (count : ℕ) (lists : List (Vec FeatureValue Global))
     → concerned ≡ false → length lists ≡ count → HasLast concerned IsLast count lists
 none_pushed concerned IsLast count lists is same = record {
   lengths = same ∙ sym (ap (λ (b : Bool). cond b (count + 1) count) is);
   last = λ e. absurd cc;
 }
 
-pub lists_more : (IsMember : List FeatureEntry → Member → Type 0) (features : List Feature) (i : ℕ) (f : Feature)
-    (lists new : List (Vec Member Global)) (members : Vec Member Global)
+pub lists_more : (IsMember : List FeatureEntry → FeatureValue → Type 0) (features : List Feature) (i : ℕ) (f : Feature)
+    (lists new : List (Vec FeatureValue Global)) (members : Vec FeatureValue Global)
     → i < length features → f ≡ get_or features i f → length lists ≡ i → new ≡ lists ++ members ∷ []
     → HasJust members.items (IsMember f.lists.items) → HasListsOf IsMember (take i features) lists
     → HasListsOf IsMember (take (i + 1) features) new
@@ -252,7 +252,7 @@ lists_more IsMember features i f lists new members below is count pushed just ha
             | inr last ↦
                 let k_is : k ≡ length lists = last.0 ∙ shorter ∙ sym count in
                 let here : slice_get new k ≡ Some members =
-                ap (λ (l : List (Vec Member Global)). slice_get l k) pushed
+                ap (λ (l : List (Vec FeatureValue Global)). slice_get l k) pushed
                 ∙ ap (λ (n : ℕ). slice_get (lists ++ members ∷ []) n) k_is ∙ get_last lists members in
                 (members, here, subst (λ (x : Feature). HasJust members.items (IsMember x.lists.items)) last.1 just)
           ];

@@ -5,8 +5,8 @@ use Rattle.std.specs.List.{position_or_len, before_first, after_first}
 use Rattle.std.specs.Borrow.{Bor}
 use Rattle.std.specs.Global.{Global}
 use Rattle.package_graphs.specs.declared.packages.Package.{Package as Unit}
-use Rattle.cargo_features.specs.declared.packages.Member.{Member}
-use Rattle.cargo_features.specs.declared.packages.Member.TheVariants as member
+use Rattle.cargo_features.specs.declared.packages.FeatureValue.{FeatureValue}
+use Rattle.cargo_features.specs.declared.packages.FeatureValue.TheVariants as member
 use Rattle.declared_features.specs.Entries.{IsEntry}
 use Rattle.declared_features.specs.Lists.{HasJust, MatchesJust}
 use Rattle.declared_features.specs.Members.{FeatureIndexes, SomeStandsFor}
@@ -77,20 +77,20 @@ IsRequestedText requested called node text =
 -- ---- the members of the list that requests them
 
 -- all features are requested, and this is one of them
-abbrev pub IsOneOfAll : Bool → ℕ → Member → Type 0
+abbrev pub IsOneOfAll : Bool → ℕ → FeatureValue → Type 0
 IsOneOfAll all count m = (all ≡ true) × ((i : ℕ) × (i < count) × (m ≡ member.Feature i))
 
 -- the members that the requested texts stand for, and all features if these are requested
 pub record AreRequested (requested : RequestedFeatures) (called : List ℕ) (at : FeatureIndexes) (node : ℕ)
-    (named : List Named) (count : ℕ) (members : List Member) : Type 0 where
+    (named : List Named) (count : ℕ) (members : List FeatureValue) : Type 0 where
   pub entries : List FeatureEntry
   pub spelled : MatchesJust (IsRequestedText requested called node) IsEntry entries
   pub members_are : HasJust members
       (λ m. SomeStandsFor at node named entries m ⊎ IsOneOfAll requested.all count m)
 
 -- there is a list more than these, of which this holds, exactly if the package is concerned
-pub record HasLast (concerned : Bool) (IsLast : List Member → Type 0) (count : ℕ) (lists : List (Vec Member Global))
+pub record HasLast (concerned : Bool) (IsLast : List FeatureValue → Type 0) (count : ℕ) (lists : List (Vec FeatureValue Global))
     : Type 0 where
   pub lengths : length lists ≡ cond concerned (count + 1) count
-  pub last : concerned ≡ true → (members : Vec Member Global) × (slice_get lists count ≡ Some members)
+  pub last : concerned ≡ true → (members : Vec FeatureValue Global) × (slice_get lists count ≡ Some members)
       × IsLast members.items

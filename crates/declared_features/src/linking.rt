@@ -15,9 +15,9 @@ ghost use Rattle.declared_features.specs.Inside.Names.{index_in, AreNamesOf};
 
 use crate::declaring::{Declarations, DeclaredGraph, Row, rows_of};
 use crate::entries::FeatureEntry;
-use crate::manifests::{Declared, Manifest};
+use crate::manifests::{ExpectedCfgs, Manifest};
 use crate::requested::activation_root;
-use cargo_features::{Dependency, Member, Package};
+use cargo_features::{Dependency, FeatureValue, Package};
 use cargo_metadata::Indexes;
 use package_graphs::Package as Unit;
 use std::alloc::{AllocError, Global};
@@ -120,7 +120,10 @@ fn push_index(index: Option<usize>, indexes: &mut Vec<usize>) -> Result<(), Allo
 }
 
 /// Appends a member, if there is one.
-fn push_member(member: Option<Member>, members: &mut Vec<Member>) -> Result<(), AllocError>
+fn push_member(
+    member: Option<FeatureValue>,
+    members: &mut Vec<FeatureValue>,
+) -> Result<(), AllocError>
     ensures { OnOk result (Adds members.old.items members.new.items (λ m. member ≡ Some m)) }
 {
     match member {
@@ -133,7 +136,7 @@ fn push_member(member: Option<Member>, members: &mut Vec<Member>) -> Result<(), 
 }
 
 /// Returns the index of the feature `default`, if a declared dependency uses that and the package has it.
-fn default_requested<'a>(names: &Names<'a>, to: usize, declared: &Declared<'a>) -> Option<usize>
+fn default_requested<'a>(names: &Names<'a>, to: usize, declared: &ExpectedCfgs<'a>) -> Option<usize>
     ensures { (index : ℕ) → (result ≡ Some index) ↔ IsDefault (index_in names.now) to declared.now index }
 {
     if !declared.uses_default {
@@ -147,7 +150,7 @@ fn features_requested<'a>(
     alloc: Global,
     names: &Names<'a>,
     to: usize,
-    declared: &Declared<'a>,
+    declared: &ExpectedCfgs<'a>,
 ) -> Result<Vec<usize>, AllocError>
     ensures { IfOk result (λ features. HasJust features.items (IsRequested (index_in names.now) to declared.now)) }
 {
@@ -161,7 +164,7 @@ fn features_requested<'a>(
 }
 
 /// Returns the name that a package's manifest gives a dependency.
-pub fn toml_name<'a>(declared: &Declared<'a>) -> &'a str
+pub fn toml_name<'a>(declared: &ExpectedCfgs<'a>) -> &'a str
     ensures { result.now ≡ toml_name declared.now }
 {
     declared.rename.unwrap_or(declared.name)
@@ -173,7 +176,7 @@ fn named_of<'a>(
     names: &Names<'a>,
     node: usize,
     row: &Row<'_, 'a>,
-    declared: &Declared<'a>,
+    declared: &ExpectedCfgs<'a>,
 ) -> Result<Named<'a>, AllocError>
     ensures { IfOk result (IsNamedOf (index_in names.now) node row.now declared.now) }
 {
@@ -220,14 +223,18 @@ fn dependencies_of<'a>(
 }
 
 /// Appends all features of a package with this many features, if they are requested.
-fn push_all(are_requested: bool, count: usize, members: &mut Vec<Member>) -> Result<(), AllocError>
+fn push_all(
+    are_requested: bool,
+    count: usize,
+    members: &mut Vec<FeatureValue>,
+) -> Result<(), AllocError>
     ensures { OnOk result (Adds members.old.items members.new.items (IsOneOfAll are_requested count)) }
 {
     if !are_requested {
         return Ok(());
     }
     'features: for i in 0..count {
-        members.push(Member::Feature(i))?;
+        members.push(FeatureValue::Feature(i))?;
     }
     Ok(())
 }
@@ -242,8 +249,8 @@ struct Lists<'m, 'a> {
 
 impl<'a> Named<'a> {
     /// Returns the member that an entry stands for, of this dependency at an index.
-    fn member(&self, names: &Names<'a>, entry: FeatureEntry<'a>, i: usize) -> Option<Member>
-        ensures { (m : Member) → (result ≡ Some m) ↔ IsOfDependency (index_in names.now) entry.entry i self.now m }
+    fn member(&self, names: &Names<'a>, entry: FeatureEntry<'a>, i: usize) -> Option<FeatureValue>
+        ensures { (m : FeatureValue) → (result ≡ Some m) ↔ IsOfDependency (index_in names.now) entry.entry i self.now m }
     {
         match entry {
             FeatureEntry::Feature(_) => None,
@@ -251,15 +258,15 @@ impl<'a> Named<'a> {
                 if self.name != name {
                     return None;
                 }
-                Some(Member::Dependency(i))
+                Some(FeatureValue::Dependency(i))
             }
             FeatureEntry::Strong(name, feature) => {
                 if self.name != name {
                     return None;
                 }
                 match names.feature(self.dependency.to, feature) {
-                    Some(index) => Some(Member::Strong(i, index)),
-                    None => Some(Member::Dependency(i)),
+                    Some(index) => Some(FeatureValue::Strong(i, index)),
+                    None => Some(FeatureValue::Dependency(i)),
                 }
             }
             FeatureEntry::Weak(name, feature) => {
@@ -267,7 +274,7 @@ impl<'a> Named<'a> {
                     return None;
                 }
                 match names.feature(self.dependency.to, feature) {
-                    Some(index) => Some(Member::Weak(i, index)),
+                    Some(index) => Some(FeatureValue::Weak(i, index)),
                     None => None,
                 }
             }
@@ -277,7 +284,11 @@ impl<'a> Named<'a> {
 
 impl<'m, 'a> Lists<'m, 'a> {
     /// Appends the member that an entry stands for, if it is a feature of the package itself.
-    fn push_own(&self, entry: FeatureEntry<'a>, members: &mut Vec<Member>) -> Result<(), AllocError>
+    fn push_own(
+        &self,
+        entry: FeatureEntry<'a>,
+        members: &mut Vec<FeatureValue>,
+    ) -> Result<(), AllocError>
         ensures { OnOk result (Adds members.old.items members.new.items
             (IsOwn (index_in self.now.names.now) self.now.node entry.entry)) }
     {
@@ -287,7 +298,7 @@ impl<'m, 'a> Lists<'m, 'a> {
         let Some(index) = self.names.feature(self.node, name) else {
             return Ok(());
         };
-        members.push(Member::Feature(index))?;
+        members.push(FeatureValue::Feature(index))?;
         Ok(())
     }
 
@@ -295,7 +306,7 @@ impl<'m, 'a> Lists<'m, 'a> {
     fn push_members(
         &self,
         entry: FeatureEntry<'a>,
-        members: &mut Vec<Member>,
+        members: &mut Vec<FeatureValue>,
     ) -> Result<(), AllocError>
         ensures { OnOk result (Adds members.old.items members.new.items
             (StandsFor (index_in self.now.names.now) self.now.node self.now.found.now entry.entry)) }
@@ -313,7 +324,7 @@ impl<'m, 'a> Lists<'m, 'a> {
         &self,
         alloc: Global,
         entries: &[FeatureEntry<'a>],
-    ) -> Result<Vec<Member>, AllocError>
+    ) -> Result<Vec<FeatureValue>, AllocError>
         ensures { IfOk result (λ members. HasJust members.items
             (SomeStandsFor (index_in self.now.names.now) self.now.node self.now.found.now entries.now)) }
     {
@@ -331,7 +342,7 @@ impl<'m, 'a> Lists<'m, 'a> {
         called: &str,
         count: usize,
         requested: &RequestedFeatures<'a>,
-    ) -> Result<Vec<Member>, AllocError>
+    ) -> Result<Vec<FeatureValue>, AllocError>
         ensures { IfOk result (λ members. AreRequested requested.now called.now
             (index_in self.now.names.now) self.now.node self.now.found.now count members.items) }
     {
@@ -346,7 +357,7 @@ impl<'m, 'a> Lists<'m, 'a> {
         &self,
         alloc: Global,
         manifest: Option<&Manifest<'a>>,
-    ) -> Result<Vec<Vec<Member>>, AllocError>
+    ) -> Result<Vec<Vec<FeatureValue>>, AllocError>
         ensures count { IfOk result
             (λ features. length features.items ≡ length (features_in (option_copied manifest.entry))) }
         ensures lists { IfOk result (λ features. HasListsOf
@@ -389,7 +400,7 @@ fn lists_of<'a>(
     lists: &Lists<'_, 'a>,
     unit: &Unit,
     requested: &RequestedFeatures<'a>,
-) -> Result<Vec<Vec<Member>>, AllocError>
+) -> Result<Vec<Vec<FeatureValue>>, AllocError>
     ensures lists { IfOk result (λ features. HasListsOf
         (SomeStandsFor (index_in lists.now.names.now) lists.now.node lists.now.found.now)
         (features_at graph.now.declared.now lists.now.node) features.items) }

@@ -4,10 +4,10 @@ ghost use Rattle.std.specs.Prelude.{◌↔◌, ◌≡◌};
 ghost use Rattle.key_answers.specs.declared.answer.Status.TheVariants.{Fine, Found};
 ghost use Rattle.diagnostics.specs.LintLevels.{Fails};
 
-use crate::level_rules::{LintLevel, Occurrence};
+use crate::level_rules::{DiagnosticLevel, Occurrence};
 use cargo_platform::shown_start;
 use key_answers::answer::Status;
-use manifest_lints_findings::{Children, Code, Level, Lint};
+use manifest_lints_findings::{Children, KeyLint, Level, Lint};
 use manifests::key_locations::Location;
 use std::alloc::{AllocError, Global};
 use toml_spans::{Position, Span};
@@ -25,7 +25,7 @@ pub struct Diagnostic {
     /// The lint. `None` if a file cannot be used, or Cargo rejects something that no lint is about.
     pub lint: Option<Lint>,
     /// The level if no rule applies.
-    pub level: LintLevel,
+    pub level: DiagnosticLevel,
     /// The part of the manifest that the diagnostic is about, without the key: `target`, or a table. It is empty if the
     /// diagnostic is about no part.
     pub subject: String,
@@ -147,7 +147,7 @@ impl Diagnostic {
 pub struct EmittedDiagnostic<'a> {
     pub diagnostic: &'a Diagnostic,
     /// The level after the rules.
-    pub level: LintLevel,
+    pub level: DiagnosticLevel,
     /// The path of the manifest, as it is displayed. It is empty if the diagnostic is about no file.
     pub path: &'a str,
     /// The text of the manifest.
@@ -176,35 +176,35 @@ pub fn end_of(text: &str, at: Location) -> Position {
 }
 
 /// Returns the level of a diagnostic on a finding of this level, if no rule applies to it.
-pub fn lint_level(level: Level) -> LintLevel {
+pub fn lint_level(level: Level) -> DiagnosticLevel {
     match level {
-        Level::Error => LintLevel::Error,
-        Level::Warning => LintLevel::Warning,
-        Level::Note => LintLevel::Note,
+        Level::Error => DiagnosticLevel::Error,
+        Level::Warning => DiagnosticLevel::Warning,
+        Level::Note => DiagnosticLevel::Note,
     }
 }
 
 /// Returns the level of a diagnostic of this lint if no rule applies to it: `not-canonical` is then allowed.
-pub fn default_level(lint: Lint, level: Level) -> LintLevel {
+pub fn default_level(lint: Lint, level: Level) -> DiagnosticLevel {
     match lint {
-        Lint::Key(Code::NotCanonical) => LintLevel::Allowed,
+        Lint::Key(KeyLint::NotCanonical) => DiagnosticLevel::Allowed,
         _ => lint_level(level),
     }
 }
 
 /// Returns the name of a level.
-pub fn level_word(level: LintLevel) -> &'static str {
+pub fn level_word(level: DiagnosticLevel) -> &'static str {
     match level {
-        LintLevel::Allowed => "allowed",
-        LintLevel::Note => "note",
-        LintLevel::Warning => "warning",
-        LintLevel::Error => "error",
+        DiagnosticLevel::Allowed => "allowed",
+        DiagnosticLevel::Note => "note",
+        DiagnosticLevel::Warning => "warning",
+        DiagnosticLevel::Error => "error",
     }
 }
 
 /// Returns the exit status for a diagnostic of this level: `Found` if the level is `fails_from` or a more severe one,
 /// and else `Fine`. If `fails_from` is `None`, no diagnostic makes the run fail.
-pub fn status_of(level: LintLevel, fails_from: Option<LintLevel>) -> Status
+pub fn status_of(level: DiagnosticLevel, fails_from: Option<DiagnosticLevel>) -> Status
     ensures found { (result ≡ Found) ↔ Fails fails_from level }
     ensures fine { (result ≡ Fine) ↔ (Fails fails_from level → ⊥) }
 {

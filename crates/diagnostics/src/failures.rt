@@ -1,10 +1,10 @@
 //! Diagnostics on what cannot be read or used. They are errors without a lint, so no rule changes their level.
 
 use crate::diagnostic::Diagnostic;
-use crate::level_rules::LintLevel;
+use crate::level_rules::DiagnosticLevel;
 use crate::unquoted::Unquoted;
 use manifest_lints_findings::Children;
-use manifests::key_locations::{Location, Locations};
+use manifests::key_locations::{Location, SourceMap};
 use manifests::reading::SyntaxError;
 use std::alloc::{AllocError, Global};
 use toml_spans::Span;
@@ -22,7 +22,7 @@ pub fn diagnostic_of_failure(
     }
     Ok(Diagnostic {
         lint: None,
-        level: LintLevel::Error,
+        level: DiagnosticLevel::Error,
         subject: String::new(alloc),
         key: None,
         message,
@@ -53,7 +53,7 @@ pub fn diagnostic_of_syntax(alloc: Global, error: &SyntaxError) -> Result<Diagno
 /// Returns the place of a byte of a key, or else that of the key.
 fn place_in_key(
     alloc: Global,
-    locations: &Locations,
+    locations: &SourceMap,
     key: &str,
     byte: usize,
 ) -> Result<Option<Location>, AllocError> {
@@ -71,7 +71,7 @@ fn place_in_key(
 /// refused.
 pub fn diagnostic_of_key(
     alloc: Global,
-    locations: &Locations,
+    locations: &SourceMap,
     key: &str,
     byte: usize,
     message: String,

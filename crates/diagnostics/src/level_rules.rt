@@ -8,7 +8,7 @@ use manifest_lints_findings::Lint;
 
 /// The level of a diagnostic.
 #[derive(Clone, Copy, Debug, PartialEq, Eq, Drop)]
-pub enum LintLevel {
+pub enum DiagnosticLevel {
     /// The diagnostic is not reported.
     Allowed,
     /// Something that may be intended.
@@ -19,23 +19,23 @@ pub enum LintLevel {
     Error,
 }
 
-impl LintLevel {
+impl DiagnosticLevel {
     /// Returns how severe the level is, from 0 for what is not reported to 3 for an error.
     pub fn severity(self) -> u8
         ensures { result ≡ severity self }
     {
         match self {
-            LintLevel::Allowed => 0,
-            LintLevel::Note => 1,
-            LintLevel::Warning => 2,
-            LintLevel::Error => 3,
+            DiagnosticLevel::Allowed => 0,
+            DiagnosticLevel::Note => 1,
+            DiagnosticLevel::Warning => 2,
+            DiagnosticLevel::Error => 3,
         }
     }
 }
 
 /// The level that a rule sets.
 #[derive(Clone, Copy, Debug, PartialEq, Eq, Drop)]
-pub enum Setting {
+pub enum LintLevel {
     /// The diagnostic is not reported.
     Allow,
     /// The diagnostic is a warning.
@@ -44,24 +44,24 @@ pub enum Setting {
     Deny,
 }
 
-impl Setting {
+impl LintLevel {
     /// Returns the level of a diagnostic to which a rule with this setting applies.
-    pub fn level(self) -> LintLevel
+    pub fn level(self) -> DiagnosticLevel
         ensures { result ≡ level_set self }
     {
         match self {
-            Setting::Allow => LintLevel::Allowed,
-            Setting::Warn => LintLevel::Warning,
-            Setting::Deny => LintLevel::Error,
+            LintLevel::Allow => DiagnosticLevel::Allowed,
+            LintLevel::Warn => DiagnosticLevel::Warning,
+            LintLevel::Deny => DiagnosticLevel::Error,
         }
     }
 
     /// Returns the name of the setting.
     pub fn word(self) -> &'static str {
         match self {
-            Setting::Allow => "allow",
-            Setting::Warn => "warn",
-            Setting::Deny => "deny",
+            LintLevel::Allow => "allow",
+            LintLevel::Warn => "warn",
+            LintLevel::Deny => "deny",
         }
     }
 }
@@ -100,7 +100,7 @@ impl Subject {
 /// A rule that sets the level of diagnostics.
 #[derive(Drop)]
 pub struct Rule {
-    pub setting: Setting,
+    pub setting: LintLevel,
     pub subject: Subject,
     /// The only key to which the rule applies. `None` applies to all.
     pub key: Option<String>,
@@ -115,18 +115,18 @@ pub struct Occurrence<'a> {
     /// The key that it is about, if there is one.
     pub key: Option<&'a str>,
     /// The level of its lint.
-    pub level: LintLevel,
+    pub level: DiagnosticLevel,
 }
 
 impl Rule {
     /// Returns whether the rule's subject includes a diagnostic that has the level `level` after the rules before.
-    fn is_about(&self, found: &Occurrence<'_>, level: LintLevel) -> bool
+    fn is_about(&self, found: &Occurrence<'_>, level: DiagnosticLevel) -> bool
         ensures { IsTrue result ↔ IsAbout self.now.subject (lint_word found.now.lint) level }
     {
         match &self.subject {
             Subject::Lint(lint) => lint.word() == found.lint.word(),
-            Subject::Warnings => level == LintLevel::Warning,
-            Subject::Notes => level == LintLevel::Note,
+            Subject::Warnings => level == DiagnosticLevel::Warning,
+            Subject::Notes => level == DiagnosticLevel::Note,
         }
     }
 }
@@ -144,7 +144,7 @@ fn is_meant(meant: &Option<String>, key: Option<&str>) -> bool
 
 impl Rule {
     /// Returns whether the rule applies to a diagnostic that has the level `level` after the rules before.
-    pub fn applies_to(&self, found: &Occurrence<'_>, level: LintLevel) -> bool
+    pub fn applies_to(&self, found: &Occurrence<'_>, level: DiagnosticLevel) -> bool
         ensures { IsTrue result
             ↔ Hears self.now (lint_word found.now.lint) (option_map (λ k. k.now) found.now.key) level }
     {
@@ -154,7 +154,7 @@ impl Rule {
 
 /// Returns the level of a diagnostic after the rules. They apply in their order: each sets the level if it applies to
 /// the diagnostic at the level that it has by then.
-pub fn level_by(rules: &[Rule], found: &Occurrence<'_>) -> LintLevel
+pub fn level_by(rules: &[Rule], found: &Occurrence<'_>) -> DiagnosticLevel
     ensures { Makes (lint_word found.now.lint) (option_map (λ k. k.now) found.now.key) found.now.level
         rules.now result }
 {
@@ -173,7 +173,7 @@ impl Rule {
         ensures { IsTrue result ↔ IsNeeded self.now found.now }
     {
         for it in found {
-            if it.level != LintLevel::Allowed && self.applies_to(it, it.level) {
+            if it.level != DiagnosticLevel::Allowed && self.applies_to(it, it.level) {
                 return true;
             }
         }
@@ -188,7 +188,7 @@ pub fn level_by_each(
     of_package: &[Rule],
     of_command: &[Rule],
     found: &Occurrence<'_>,
-) -> LintLevel
+) -> DiagnosticLevel
     ensures { Makes (lint_word found.now.lint) (option_map (λ k. k.now) found.now.key) found.now.level
         (of_workspace.now ++ (of_package.now ++ of_command.now)) result }
 {

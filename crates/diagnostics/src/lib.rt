@@ -21,8 +21,10 @@ pub use diagnostic::{
 };
 pub use failures::{diagnostic_of_failure, diagnostic_of_key, diagnostic_of_syntax};
 pub use level_laws::{one_level, rules_that_do_not_apply_do_nothing, the_last_decides};
-pub use level_rules::{LintLevel, Occurrence, Rule, Setting, Subject, level_by, level_by_each};
-pub use removals::removals_of;
+pub use level_rules::{
+    DiagnosticLevel, LintLevel, Occurrence, Rule, Subject, level_by, level_by_each,
+};
+pub use removals::list_entry_removals;
 pub use rendering::{coloured, push_rendered};
 pub use replacements::{Replacement, replacement_of};
 pub use source_lines::Window;

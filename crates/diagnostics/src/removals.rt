@@ -130,10 +130,16 @@ impl Run {
     }
 }
 
-/// Returns the spans to delete from a text, to remove the entries of its lists with these spans, which come in the
-/// order of the text. With an entry goes the comma after it, or before it if none is after it, and the white space
-/// between; an entry that fills lines alone goes with these lines. Fails if memory is refused.
-pub fn removals_of(alloc: Global, text: &str, entries: &[Span]) -> Result<Vec<Span>, AllocError> {
+/// Returns the spans to delete from a text in order to remove entries of its lists. `entries` are the spans of these
+/// entries, in the order of the text.
+///
+/// The comma after an entry is removed too, or the one before it if there is none after it, and so is the white space
+/// between them. If an entry is alone on its lines, these lines are removed. Fails if an allocation fails.
+pub fn list_entry_removals(
+    alloc: Global,
+    text: &str,
+    entries: &[Span],
+) -> Result<Vec<Span>, AllocError> {
     let mut spans = Vec::new(alloc);
     let mut run: Option<Run> = None;
     for entry in entries {

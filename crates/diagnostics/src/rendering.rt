@@ -1,7 +1,7 @@
 //! Diagnostics as rustc prints them for people: the message, the place, and the line of the manifest with marks below.
 
 use crate::diagnostic::{Diagnostic, EmittedDiagnostic, level_word};
-use crate::level_rules::LintLevel;
+use crate::level_rules::DiagnosticLevel;
 use crate::source_lines::{CUT, Window};
 use manifest_lints_findings::Children;
 use manifests::key_locations::Location;
@@ -26,15 +26,19 @@ struct Rows {
 }
 
 /// Returns the name of a level, in colour if `colours`.
-pub fn coloured(alloc: Global, level: LintLevel, colours: bool) -> Result<String, AllocError> {
+pub fn coloured(
+    alloc: Global,
+    level: DiagnosticLevel,
+    colours: bool,
+) -> Result<String, AllocError> {
     let word = level_word(level);
     if !colours {
         return String::from_str(alloc, word);
     }
     let colour = match level {
-        LintLevel::Error => "31",
-        LintLevel::Warning => "33",
-        LintLevel::Note | LintLevel::Allowed => "36",
+        DiagnosticLevel::Error => "31",
+        DiagnosticLevel::Warning => "33",
+        DiagnosticLevel::Note | DiagnosticLevel::Allowed => "36",
     };
     format!(in alloc; "\x1b[{colour}m{word}\x1b[0m")
 }

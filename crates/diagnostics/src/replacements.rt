@@ -1,8 +1,8 @@
 //! Texts of a manifest that a suggestion replaces, and what it replaces them with.
 
 use crate::diagnostic::Diagnostic;
-use crate::removals::removals_of;
-use manifest_lints_findings::{Code, Lint};
+use crate::removals::list_entry_removals;
+use manifest_lints_findings::{KeyLint, Lint};
 use manifests::key_locations::Location;
 use std::alloc::{AllocError, Global};
 use toml_spans::Position;
@@ -67,7 +67,7 @@ pub fn quoted_key(alloc: Global, name: &str) -> Result<String, AllocError> {
 /// applied by a machine.
 fn applicability_of(lint: Option<Lint>) -> &'static str {
     match lint {
-        Some(Lint::Key(Code::NotCanonical | Code::ReadOtherwise)) => SURE,
+        Some(Lint::Key(KeyLint::NotCanonical | KeyLint::ReadOtherwise)) => SURE,
         Some(Lint::Underscored | Lint::UnneededAllow) => SURE,
         _ => "MaybeIncorrect",
     }
@@ -83,7 +83,7 @@ fn spelled(alloc: Global, lint: Option<Lint>, suggestion: &str) -> Result<String
 
 /// Returns what is to be deleted of a text to remove the entry of a list at this place.
 fn place_of_removal(alloc: Global, text: &str, at: Location) -> Result<Location, AllocError> {
-    let removals = removals_of(alloc, text, &[at.span])?;
+    let removals = list_entry_removals(alloc, text, &[at.span])?;
     let span = removals.first().copied().unwrap_or(at.span);
     let start = Position::START.behind(text.get(..span.start).unwrap_or(""));
     Ok(Location {

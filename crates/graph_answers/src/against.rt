@@ -4,7 +4,7 @@ use cargo_metadata::Package as Described;
 use graph_queries::differences::difference_of;
 use graph_queries::graph::{Graph, source_of};
 use graph_queries::lines::{push, push_comma, shown, shown_targets};
-use graph_queries::pairs::{Pair, pairs_of};
+use graph_queries::pairs::{MatchedPackage, matched_packages};
 use graph_queries::query::GraphQuery;
 use key_answers::answer::{Answer, QueryError, Status, argument_error};
 use key_answers::json_lines;
@@ -448,7 +448,7 @@ fn change_of<'d>(
     alloc: Global,
     old: &Graph<'d>,
     new: &Graph<'d>,
-    pair: &Pair<'d>,
+    pair: &MatchedPackage<'d>,
     query: &GraphQuery<'_>,
 ) -> Result<Change<'d>, AllocError> {
     let before = present_in(alloc, old, pair.old, query)?;
@@ -530,7 +530,7 @@ pub fn show_changes<'d>(
     }
     let has_features = new.features.is_some();
     let mut count: usize = 0;
-    for pair in &pairs_of(alloc, old, new, query)? {
+    for pair in &matched_packages(alloc, old, new, query)? {
         let mut change = change_of(alloc, old, new, pair, query)?;
         let kinds = change.kinds();
         let Some(word) = word_of(&kinds) else {

@@ -5,8 +5,8 @@ use crate::identifiers::are_listed;
 use cargo_metadata::Package as Described;
 use cargo_metadata::fields::{list_at, text_at};
 use cyclonedx::{
-    Component, ExternalReference, Hash, LicenceChoice, LicenceName, LicenceText, LockFile,
-    LockedPackage, NamedLicence, Property, Source, package_url,
+    Component, ExternalReference, Hash, LicenceChoice, LicenceName, LockFile, LockedPackage,
+    NamedLicence, Property, Source, SpdxExpression, package_url,
 };
 use serde_json::Value;
 use spdx_expressions::{LicenceExpression, ReadError};
@@ -263,7 +263,7 @@ fn licences_of<'a>(
     let mut licences = Vec::new(alloc);
     if let Some(name) = license {
         licences.push(match expression_of(alloc, name)? {
-            Some(expression) => LicenceChoice::Expression(LicenceText { expression }),
+            Some(expression) => LicenceChoice::Expression(SpdxExpression { expression }),
             None => LicenceChoice::Named(NamedLicence {
                 license: LicenceName { name },
             }),

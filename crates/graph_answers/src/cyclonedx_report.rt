@@ -20,7 +20,7 @@ use std::alloc::{AllocError, Global};
 
 /// The contents of a bill of materials besides the packages of a graph.
 #[derive(Clone, Copy, Drop)]
-pub struct Bill<'a> {
+pub struct BomContext<'a> {
     /// The version of the program.
     pub version: &'a str,
     /// The time in seconds since 1970, if it is set.
@@ -331,7 +331,7 @@ fn subject_of<'a>(
 fn metadata_of<'a>(
     alloc: Global,
     query: &GraphQuery<'_>,
-    bill: &Bill<'_>,
+    bill: &BomContext<'_>,
     component: Component<'a>,
 ) -> Result<BomMetadata<'a>, AllocError> {
     let mut programs = Vec::new(alloc);
@@ -370,7 +370,7 @@ fn document_of<'a>(
     alloc: Global,
     graph: &Graph<'a>,
     query: &GraphQuery<'_>,
-    bill: &Bill<'_>,
+    bill: &BomContext<'_>,
     packages: &[ListedPackage<'a>],
 ) -> Result<Answer, AllocError> {
     let references = references_of(alloc, packages)?;
@@ -402,7 +402,7 @@ fn not_locked(
 /// Rejects the document if the lock file lacks one of its packages that come from registries.
 fn reject_unlocked(
     alloc: Global,
-    bill: &Bill<'_>,
+    bill: &BomContext<'_>,
     packages: &[ListedPackage<'_>],
 ) -> Result<(), Rejected> {
     let Some((name, lock)) = bill.lock else {
@@ -427,7 +427,7 @@ pub fn show_bill<'a>(
     document: &'a Value,
     graph: &Graph<'a>,
     query: &GraphQuery<'_>,
-    bill: &Bill<'_>,
+    bill: &BomContext<'_>,
 ) -> Result<Answer, Rejected> {
     let lock = match bill.lock {
         Some((_, lock)) => Some(lock),

@@ -2,7 +2,7 @@
 
 use crate::query::{GraphArguments, Requested};
 use cargo_platform::{shown_start, shown_text};
-use diagnostics::LintLevel;
+use diagnostics::DiagnosticLevel;
 use key_answers::answer::QueryError;
 use known_targets::{KnownTarget, RUSTC_VERSION};
 use licence_audits::PackageSpec;
@@ -46,7 +46,7 @@ fn unknown_targets(
             let message = format!(in alloc;
                 "no target that rustc {RUSTC_VERSION} knows is named `{shown}`{meant}"
             )?;
-            let rendered = source.report(alloc, LintLevel::Error, *at, message)?;
+            let rendered = source.report(alloc, DiagnosticLevel::Error, *at, message)?;
             text.push_str(rendered.as_str())?;
         }
     }

@@ -4,7 +4,7 @@ use crate::licence_audit::Audit;
 use crate::lines::push;
 use crate::policies::AuditPolicy;
 use cargo_platform::shown_start;
-use diagnostics::LintLevel;
+use diagnostics::DiagnosticLevel;
 use key_answers::answer::{Answer, Status};
 use licence_audits::{Subject, is_unused_entry, is_unused_exception};
 use licence_policies::UnusedLevel;
@@ -14,11 +14,11 @@ use std::alloc::{AllocError, Global};
 use std::slice;
 
 /// Returns the level of the diagnostic, or `None` if none is reported.
-fn lint_level(level: UnusedLevel) -> Option<LintLevel> {
+fn lint_level(level: UnusedLevel) -> Option<DiagnosticLevel> {
     match level {
         UnusedLevel::Allow => None,
-        UnusedLevel::Warn => Some(LintLevel::Warning),
-        UnusedLevel::Deny => Some(LintLevel::Error),
+        UnusedLevel::Warn => Some(DiagnosticLevel::Warning),
+        UnusedLevel::Deny => Some(DiagnosticLevel::Error),
     }
 }
 
@@ -27,11 +27,11 @@ fn report_entry(
     answer: &mut Answer,
     alloc: Global,
     policy: &AuditPolicy,
-    level: LintLevel,
+    level: DiagnosticLevel,
     at: Option<Location>,
     message: &str,
 ) -> Result<(), AllocError> {
-    if level == LintLevel::Error {
+    if level == DiagnosticLevel::Error {
         answer.raise(Status::Found);
     }
     let message = String::from_str(alloc, message)?;

@@ -5,7 +5,7 @@ use cargo_platform::{CfgExpr, Platform};
 use graph_queries::edges::{Edge, edges_followed};
 use graph_queries::graph::Graph;
 use graph_queries::lines::{kind_word, push, shown_condition, shown_targets};
-use graph_queries::origins::origins_of;
+use graph_queries::origins::dependency_sides;
 use graph_queries::query::GraphQuery;
 use key_answers::answer::{Answer, Status};
 use key_answers::json_lines;
@@ -161,7 +161,7 @@ fn line_of<'g, 'c, 'a>(
     let followed = graph.followed(edge.from, edge.place, query);
     let targets = followed.targets();
     let step = step_of(alloc, graph, edge)?;
-    let leading = origins_of(alloc, graph, (edge.from, edge.place), followed, query)?;
+    let leading = dependency_sides(alloc, graph, (edge.from, edge.place), followed, query)?;
     Ok(EdgeLine {
         from: step.from,
         to: step.to,

@@ -1,6 +1,6 @@
 //! The sides from which a dependency leads, in lines of JSON.
 
-use graph_queries::origins::DependencyOrigin;
+use graph_queries::origins::DependencySides;
 use graph_queries::query::GraphQuery;
 use graph_queries::sides::side_word;
 use key_answers::targets::TargetList;
@@ -27,7 +27,7 @@ pub struct Origin<'a> {
 /// Returns the origins of a dependency that is followed on the targets of `all`, from the sides from which it leads.
 pub fn origins_at<'a>(
     alloc: Global,
-    leading: &[DependencyOrigin],
+    leading: &[DependencySides],
     all: TargetSet,
     query: &GraphQuery<'a>,
 ) -> Result<Vec<Origin<'a>>, AllocError> {

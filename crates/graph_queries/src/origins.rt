@@ -9,9 +9,9 @@ use known_targets::{KnownTarget, TargetSet};
 use package_graphs::{Dependency, Side};
 use std::alloc::{AllocError, Global};
 
-/// A side from which a dependency leads.
+/// The sides between which a dependency leads, with the selected targets on which it does.
 #[derive(Clone, Copy, Drop)]
-pub struct DependencyOrigin {
+pub struct DependencySides {
     /// The side for which the package that has the dependency is built.
     pub from: Side,
     /// The side to which the dependency leads from there.
@@ -74,13 +74,13 @@ fn needed_for(
 
 /// Returns the origins of a dependency that is followed on these targets. `place` is its index among those of the
 /// package. Fails if memory is refused.
-pub fn origins_of(
+pub fn dependency_sides(
     alloc: Global,
     graph: &Graph<'_>,
     (index, place): (usize, usize),
     followed: BySide,
     query: &GraphQuery<'_>,
-) -> Result<Vec<DependencyOrigin>, AllocError> {
+) -> Result<Vec<DependencySides>, AllocError> {
     let mut origins = Vec::new(alloc);
     let Some(dependency) = graph.dependency(index, place) else {
         return Ok(origins);
@@ -97,7 +97,7 @@ pub fn origins_of(
     }
     for (from, to, targets) in [(Side::Target, to, target), (Side::Host, Side::Host, host)] {
         if !targets.is_empty() {
-            origins.push(DependencyOrigin { from, to, targets })?;
+            origins.push(DependencySides { from, to, targets })?;
         }
     }
     Ok(origins)

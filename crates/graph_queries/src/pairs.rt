@@ -7,7 +7,7 @@ use std::collections::BTreeMap;
 
 /// A package that is in an old answer, in a new one, or in both.
 #[derive(Clone, Copy, Drop)]
-pub struct Pair<'d> {
+pub struct MatchedPackage<'d> {
     pub name: &'d str,
     /// The index of the package in the graph of the old answer.
     pub old: Option<usize>,
@@ -49,7 +49,7 @@ fn packages_of<'d>(
 /// Returns the places of the pairs that only one answer has, by their names. A name with several has none.
 fn places_alone<'d>(
     alloc: Global,
-    pairs: &[Pair<'d>],
+    pairs: &[MatchedPackage<'d>],
     are_new: bool,
 ) -> Result<BTreeMap<&'d str, Option<usize>>, AllocError> {
     let mut places: BTreeMap<&'d str, Option<usize>> = BTreeMap::new(alloc);
@@ -74,7 +74,7 @@ fn places_alone<'d>(
 
 /// Joins pairs of one name: if exactly one package of a name is in the old answer alone, and exactly one in the new
 /// answer alone, the first was updated to the second.
-fn join_updates(alloc: Global, pairs: &mut Vec<Pair<'_>>) -> Result<(), AllocError> {
+fn join_updates(alloc: Global, pairs: &mut Vec<MatchedPackage<'_>>) -> Result<(), AllocError> {
     let gone = places_alone(alloc, pairs, false)?;
     let added = places_alone(alloc, pairs, true)?;
     for (name, place) in &gone {
@@ -98,12 +98,12 @@ fn join_updates(alloc: Global, pairs: &mut Vec<Pair<'_>>) -> Result<(), AllocErr
 
 /// Returns the packages of both answers as pairs, sorted by name and version. Packages of the same name and version are
 /// a pair, and so are the only two of a name that have no counterpart: the package was updated.
-pub fn pairs_of<'d>(
+pub fn matched_packages<'d>(
     alloc: Global,
     old: &Graph<'d>,
     new: &Graph<'d>,
     query: &GraphQuery<'_>,
-) -> Result<Vec<Pair<'d>>, AllocError> {
+) -> Result<Vec<MatchedPackage<'d>>, AllocError> {
     let before = packages_of(alloc, old, query)?;
     let after = packages_of(alloc, new, query)?;
     let mut keys = Vec::new(alloc);
@@ -119,7 +119,7 @@ pub fn pairs_of<'d>(
     let mut pairs = Vec::new(alloc);
     for key in &keys {
         let ((name, _), _) = *key;
-        pairs.push(Pair {
+        pairs.push(MatchedPackage {
             name,
             old: before.get(key).copied(),
             new: after.get(key).copied(),

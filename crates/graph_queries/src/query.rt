@@ -24,7 +24,7 @@ pub enum Show {
 
 /// The arguments of the feature resolution.
 #[derive(Clone, Copy, Drop)]
-pub struct Requested<'a> {
+pub struct FeatureArguments<'a> {
     /// The feature resolver: `1`, `2`, `3`, or `edition` for the default of the root package's edition.
     pub resolver: Option<&'a str>,
     /// The features that are requested of the roots, separated by commas or spaces.
@@ -68,7 +68,7 @@ pub struct GraphArguments<'a> {
     pub fail_on: Option<&'a str>,
     /// True if changes are printed as a Markdown table.
     pub markdown: bool,
-    pub requested: Requested<'a>,
+    pub requested: FeatureArguments<'a>,
     pub json: bool,
     /// The command and the date that the HTML page states, if a page is requested too.
     pub html: Option<Provenance<'a>>,
@@ -105,7 +105,7 @@ pub struct GraphQuery<'a> {
     /// The command and the date that the HTML page states, if a page is requested too.
     pub html: Option<Provenance<'a>>,
     pub markdown: bool,
-    pub requested: Requested<'a>,
+    pub requested: FeatureArguments<'a>,
 }
 
 /// Follows all dependency kinds.
@@ -260,7 +260,7 @@ impl<'a> GraphQuery<'a> {
             json: true,
             html: None,
             markdown: false,
-            requested: Requested {
+            requested: FeatureArguments {
                 resolver: None,
                 features: &[],
                 no_default: false,

@@ -3,7 +3,7 @@
 use crate::graph::Graph;
 use crate::query::GraphQuery;
 use crate::resolving::ResolvedFeatures;
-use cargo_features::{Build, Dependency, Member, Package, used_packages};
+use cargo_features::{BuildOptions, Dependency, FeatureValue, Package, used_packages};
 use known_targets::TargetSet;
 use std::alloc::{AllocError, Global};
 
@@ -51,11 +51,14 @@ pub struct Reasons {
 }
 
 /// Copies a list of members, with each weak member made strong.
-fn strong_members(alloc: Global, members: &[Member]) -> Result<Vec<Member>, AllocError> {
+fn strong_members(
+    alloc: Global,
+    members: &[FeatureValue],
+) -> Result<Vec<FeatureValue>, AllocError> {
     let mut strong = Vec::new(alloc);
     for member in members {
         strong.push(match *member {
-            Member::Weak(dependency, feature) => Member::Strong(dependency, feature),
+            FeatureValue::Weak(dependency, feature) => FeatureValue::Strong(dependency, feature),
             other => other,
         })?;
     }
@@ -96,7 +99,7 @@ fn strong_packages(alloc: Global, packages: &[Package]) -> Result<Vec<Package>, 
 fn taken(
     alloc: Global,
     packages: &[Package],
-    build: Build,
+    build: BuildOptions,
     left: &mut Vec<TargetSet>,
 ) -> Result<Vec<TargetSet>, AllocError> {
     let used = used_packages(alloc, packages, build)?;

@@ -10,7 +10,7 @@ use cargo_metadata::{ExpectedValue, Metadata, MetadataError, ResolveError};
 use cargo_platform::ParseError;
 use input_limits::{deep_at, deep_text};
 pub use key_answers::answer::file_error;
-use key_answers::printing::refused_key;
+use key_answers::printing::invalid_key_message;
 use serde_json::Value;
 use std::alloc::{AllocError, Global};
 
@@ -157,7 +157,7 @@ pub(crate) fn depth_reason(
 
 /// Formats the span and the reason of a condition's error as `targets` does, indented and after a line end.
 fn fault_lines(alloc: Global, key: &str, error: &ParseError) -> Result<String, AllocError> {
-    let whole = refused_key(alloc, key, error)?;
+    let whole = invalid_key_message(alloc, key, error)?;
     let mut lines = String::new(alloc);
     if let Some((_, rest)) = whole.as_str().split_once('\n') {
         push(&mut lines, "\n")?;

@@ -5,7 +5,7 @@ use crate::origins::using_from;
 use crate::query::{GraphQuery, Show};
 use crate::reading::{Input, Rejected};
 use crate::requested::{current_node, names_of, reject_unknown, split_by_root};
-use cargo_features::{Build, Claim, Resolved, resolve};
+use cargo_features::{BuildOptions, Claim, Resolved, resolve};
 use cargo_metadata::fields::text_at;
 use declared_features::{Declarations, Described, RequestedFeatures, described_features};
 use key_answers::answer::{QueryError, argument_error};
@@ -158,10 +158,10 @@ fn resolver_of(
 }
 
 /// Returns the build of a resolver.
-fn build_of(resolver: Resolver, kinds: Kinds, host: KnownTarget) -> Build {
+fn build_of(resolver: Resolver, kinds: Kinds, host: KnownTarget) -> BuildOptions {
     match resolver {
-        Resolver::One => Build::by_resolver_1(kinds, host),
-        Resolver::Two => Build::by_resolver_2(kinds, host),
+        Resolver::One => BuildOptions::by_resolver_1(kinds, host),
+        Resolver::Two => BuildOptions::by_resolver_2(kinds, host),
     }
 }
 
@@ -184,7 +184,7 @@ fn resolved_of<'a>(
     alloc: Global,
     input: &Input<'a>,
     features: &RequestedFeatures<'a>,
-    build: Build,
+    build: BuildOptions,
 ) -> Result<Resolution, Rejected> {
     let graph = input.declaring(alloc)?;
     reject_unknown(alloc, &graph, features)?;

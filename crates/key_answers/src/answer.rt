@@ -8,7 +8,7 @@ use std::alloc::{AllocError, Global};
 /// The exit status of a run.
 #[derive(Clone, Copy, Debug, PartialEq, Eq)]
 pub enum Status {
-    /// There is nothing to report, or the query is answer_or_error.
+    /// There is nothing to report, or the query is answered.
     Fine,
     /// There is something to report, or a key does not apply.
     Found,

@@ -187,7 +187,11 @@ fn key_snippet(alloc: Global, key: &str, error: &ParseError) -> Result<Option<St
 }
 
 /// Returns the message for an invalid key.
-pub fn refused_key(alloc: Global, key: &str, error: &ParseError) -> Result<String, AllocError> {
+pub fn invalid_key_message(
+    alloc: Global,
+    key: &str,
+    error: &ParseError,
+) -> Result<String, AllocError> {
     let mut text = String::from_str(alloc, "error: invalid key\n")?;
     let snippet = key_snippet(alloc, key, error)?;
     push_fault(&mut text, alloc, error, snippet)?;
@@ -203,7 +207,7 @@ pub(crate) fn deep_key(alloc: Global, at: usize) -> Result<String, AllocError>
 }
 
 /// Returns the message for a line that is not a fact.
-pub fn refused_fact(
+pub fn invalid_fact_message(
     alloc: Global,
     number: usize,
     error: &ParseError,
@@ -215,7 +219,7 @@ pub fn refused_fact(
 }
 
 /// Returns the message for an argument that is not a fact.
-pub fn refused_cfg(alloc: Global, error: &ParseError) -> Result<String, AllocError> {
+pub fn invalid_cfg_message(alloc: Global, error: &ParseError) -> Result<String, AllocError> {
     let mut text = String::from_str(alloc, "error: the value of --cfg is not a fact\n")?;
     let snippet = error.snippet(alloc)?;
     push_fault(&mut text, alloc, error, snippet)?;

@@ -5,7 +5,7 @@ use crate::identifiers::{deprecated_message, unlisted_messages};
 use crate::keys::TableKind;
 use crate::policy::LicenceTable;
 use crate::reader::Reader;
-use diagnostics::LintLevel;
+use diagnostics::DiagnosticLevel;
 use licence_audits::Exception;
 use spdx_expressions::{Licence, ReadError};
 use std::alloc::AllocError;
@@ -59,10 +59,10 @@ fn report_identifiers(
     path: &[&str],
 ) -> Result<(), AllocError> {
     for message in unlisted_messages(reader.alloc, licence)? {
-        reader.report(LintLevel::Warning, path, message)?;
+        reader.report(DiagnosticLevel::Warning, path, message)?;
     }
     if let Some(message) = deprecated_message(reader.alloc, licence)? {
-        reader.report(LintLevel::Note, path, message)?;
+        reader.report(DiagnosticLevel::Note, path, message)?;
     }
     Ok(())
 }

@@ -5,7 +5,7 @@ use crate::keys::TableKind;
 use crate::licence_table::read_licences;
 use crate::reader::Reader;
 use diagnostics::{
-    Diagnostic, EmittedDiagnostic, LintLevel, diagnostic_of_failure, diagnostic_of_syntax,
+    Diagnostic, DiagnosticLevel, EmittedDiagnostic, diagnostic_of_failure, diagnostic_of_syntax,
     push_rendered,
 };
 use input_limits::strip_byte_order_mark;
@@ -121,7 +121,7 @@ impl PolicySource {
     pub fn report(
         &self,
         alloc: Global,
-        level: LintLevel,
+        level: DiagnosticLevel,
         at: Option<Location>,
         message: String,
     ) -> Result<String, AllocError> {
@@ -174,7 +174,7 @@ impl Policy {
         !self
             .diagnostics
             .iter()
-            .any(|diagnostic| diagnostic.level == LintLevel::Error)
+            .any(|diagnostic| diagnostic.level == DiagnosticLevel::Error)
     }
 
     /// Returns the diagnostics as rustc prints them for people. Fails if an allocation fails.

@@ -3,9 +3,9 @@
 use crate::keys::{TableKind, Treatment};
 use crate::policy::UnusedLevel;
 use cargo_platform::shown_start;
-use diagnostics::{Diagnostic, LintLevel, diagnostic_of_failure};
+use diagnostics::{Diagnostic, DiagnosticLevel, diagnostic_of_failure};
 use manifest_lints_findings::near;
-use manifests::key_locations::{Location, Locations, path_of};
+use manifests::key_locations::{Location, SourceMap, key_path};
 use spdx_expressions::ParseError;
 use std::alloc::{AllocError, Global};
 use toml::{Table, Value};
@@ -15,7 +15,7 @@ use toml_spans::{Position, Span, part_of_name};
 #[derive(Drop)]
 pub struct Reader {
     pub alloc: Global,
-    locations: Locations,
+    locations: SourceMap,
     diagnostics: Vec<Diagnostic>,
     /// The keys that are ignored, with those of their tables before them.
     ignored: Vec<String>,
@@ -52,7 +52,7 @@ impl Reader {
     pub fn new(alloc: Global, text: &str) -> Result<Reader, AllocError> {
         Ok(Reader {
             alloc,
-            locations: Locations::of_all(alloc, text)?,
+            locations: SourceMap::of_all(alloc, text)?,
             diagnostics: Vec::new(alloc),
             ignored: Vec::new(alloc),
         })
@@ -62,7 +62,7 @@ impl Reader {
     pub fn at(&self, path: &[&str]) -> Result<Option<Location>, AllocError> {
         for dropped in 0..path.len() {
             let length = path.len().saturating_sub(dropped);
-            let names = path_of(self.alloc, path.get(..length).unwrap_or(&[]))?;
+            let names = key_path(self.alloc, path.get(..length).unwrap_or(&[]))?;
             if let Some(at) = self.locations.location_of_path(names.as_str()) {
                 return Ok(Some(at));
             }
@@ -73,7 +73,7 @@ impl Reader {
     /// Adds a diagnostic at a place.
     fn report_at(
         &mut self,
-        level: LintLevel,
+        level: DiagnosticLevel,
         at: Option<Location>,
         message: String,
     ) -> Result<(), AllocError> {
@@ -86,7 +86,7 @@ impl Reader {
     /// Adds a diagnostic at the place of a key or element.
     pub fn report(
         &mut self,
-        level: LintLevel,
+        level: DiagnosticLevel,
         path: &[&str],
         message: String,
     ) -> Result<(), AllocError> {
@@ -97,7 +97,7 @@ impl Reader {
     /// Adds an error with this message at the place of a key or element.
     pub fn reject(&mut self, path: &[&str], message: &str) -> Result<(), AllocError> {
         let message = String::from_str(self.alloc, message)?;
-        self.report(LintLevel::Error, path, message)
+        self.report(DiagnosticLevel::Error, path, message)
     }
 
     /// Adds the error of a text that is no licence, at the part of it that is wrong.
@@ -115,7 +115,7 @@ impl Reader {
             Some(at) => Some(self.part_at(at, text, error.span.start, error.span.end)?),
             None => None,
         };
-        self.report_at(LintLevel::Error, at, message)
+        self.report_at(DiagnosticLevel::Error, at, message)
     }
 
     /// Returns the place of a part of a text, given by its bytes, or else that of the text.
@@ -163,7 +163,7 @@ impl Reader {
                 None => {
                     let message = unknown_key(self.alloc, kind, key)?;
                     let at = self.location_of_key(path, key)?;
-                    self.report_at(LintLevel::Error, at, message)?;
+                    self.report_at(DiagnosticLevel::Error, at, message)?;
                 }
             }
         }
@@ -286,7 +286,7 @@ impl Reader {
                 names.push_str("`")?;
             }
             let message = format!(in alloc; "these keys are ignored: {names}")?;
-            reader.report_at(LintLevel::Note, None, message)?;
+            reader.report_at(DiagnosticLevel::Note, None, message)?;
         }
         Ok(reader.diagnostics)
     }

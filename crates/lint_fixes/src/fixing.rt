@@ -11,7 +11,7 @@ ghost use Rattle.lint_fixes.specs.declared.fixing.Outcome.TheVariants.{Unchanged
 use crate::replacing::{CHANGED, FileChange, text_read, write_change};
 use crate::sameness::{Renames, has_key, is_same_manifest};
 use cargo_platform::shown_text;
-use diagnostics::{Diagnostic, Replacement, removals_of, replacement_of};
+use diagnostics::{Diagnostic, Replacement, list_entry_removals, replacement_of};
 use input_limits::strip_byte_order_mark;
 use key_answers::answer::{Answer, Status};
 use std::alloc::{AllocError, Global};
@@ -21,7 +21,7 @@ use text_edits::{Edit, apply, unified_diff};
 use toml::Table;
 use toml_parser::ParseError;
 use toml_spans::{Span, name_at_front};
-use workspaces::{ManifestCache, table_of};
+use workspaces::{ManifestCache, parse_table};
 
 /// The options that go with `--fix`.
 #[derive(Clone, Copy, Drop)]
@@ -289,7 +289,7 @@ fn edits_of(
             edits.push(edit_at(*span, before, fix.text.clone()?))?;
         }
     }
-    for span in &removals_of(alloc, text, removed)? {
+    for span in &list_entry_removals(alloc, text, removed)? {
         edits.push(edit_at(*span, before, String::new(alloc)))?;
     }
     edits.sort_by_key(|it| it.start)?;
@@ -331,7 +331,7 @@ fn fixed_text(
     // A text that has none of the keys that the fixes replace stays as it is.
     ensures unchanged { IfOk result (λ it. HasNoneOf text.now fixes.items → removed.items ≡ [] → it ≡ Unchanged) }
 {
-    let Some(manifest) = table_of(alloc, text)? else {
+    let Some(manifest) = parse_table(alloc, text)? else {
         return Ok(Outcome::Unchanged);
     };
     let fixes = chosen_fixes(alloc, fixes, &manifest)?;
@@ -344,7 +344,7 @@ fn fixed_text(
     let mark = text.len().saturating_sub(unmarked.len());
     let edits = edits_of(alloc, unmarked, &fixes, &removed, mark)?;
     let fixed = apply(alloc, text, &edits)?.text;
-    let Some(table) = table_of(alloc, fixed.as_str())? else {
+    let Some(table) = parse_table(alloc, fixed.as_str())? else {
         return Ok(Outcome::Refused("the fixed text would not be TOML"));
     };
     let renames = renames_of(alloc, &fixes)?;

@@ -1,8 +1,8 @@
 //! The explanations of the lints, for people.
 
 use cargo_platform::shown_start;
-use diagnostics::{LintLevel, default_level};
-use manifest_lints_findings::{CODES, Code, LINTS_NOT_ON_KEYS, Lint, near};
+use diagnostics::{DiagnosticLevel, default_level};
+use manifest_lints_findings::{KEY_LINTS, KeyLint, LINTS_NOT_ON_KEYS, Lint, near};
 use std::alloc::{AllocError, Global};
 
 /// The explanation of a lint.
@@ -10,7 +10,7 @@ use std::alloc::{AllocError, Global};
 pub struct Explained {
     pub lint: Lint,
     /// The level of the lint if no rule applies.
-    pub level: LintLevel,
+    pub level: DiagnosticLevel,
     /// A summary of one line.
     pub short: &'static str,
     /// A paragraph, and an example.
@@ -179,22 +179,22 @@ const UNNEEDED_ALLOW: Said = Said {
 };
 
 /// Returns the explanation of a lint on keys.
-fn said_of(code: Code) -> Said {
+fn said_of(code: KeyLint) -> Said {
     match code {
-        Code::Refused => REFUSED,
-        Code::NoTable => NO_TABLE,
-        Code::ReadOtherwise => READ_OTHERWISE,
-        Code::Unsupported => UNSUPPORTED,
-        Code::Never => NEVER,
-        Code::UnknownTarget => UNKNOWN_TARGET,
-        Code::UnknownFact => UNKNOWN_FACT,
-        Code::Nowhere => NOWHERE,
-        Code::Same => SAME,
-        Code::Equivalent => EQUIVALENT,
-        Code::Always => ALWAYS,
-        Code::Everywhere => EVERYWHERE,
-        Code::Custom => CUSTOM,
-        Code::NotCanonical => NOT_CANONICAL,
+        KeyLint::Refused => REFUSED,
+        KeyLint::NoTable => NO_TABLE,
+        KeyLint::ReadOtherwise => READ_OTHERWISE,
+        KeyLint::Unsupported => UNSUPPORTED,
+        KeyLint::Never => NEVER,
+        KeyLint::UnknownTarget => UNKNOWN_TARGET,
+        KeyLint::UnknownFact => UNKNOWN_FACT,
+        KeyLint::Nowhere => NOWHERE,
+        KeyLint::Same => SAME,
+        KeyLint::Equivalent => EQUIVALENT,
+        KeyLint::Always => ALWAYS,
+        KeyLint::Everywhere => EVERYWHERE,
+        KeyLint::Custom => CUSTOM,
+        KeyLint::NotCanonical => NOT_CANONICAL,
     }
 }
 
@@ -226,7 +226,7 @@ pub(crate) fn explanation_of(lint: Lint) -> Explained {
 /// then the others. Fails if memory is refused.
 pub fn all_explained(alloc: Global) -> Result<Vec<Explained>, AllocError> {
     let mut all = Vec::new(alloc);
-    for code in &CODES {
+    for code in &KEY_LINTS {
         all.push(explanation_of(Lint::Key(*code)))?;
     }
     for lint in &LINTS_NOT_ON_KEYS {

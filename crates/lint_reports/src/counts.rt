@@ -1,6 +1,6 @@
 //! The numbers of checked files and keys, and of diagnostics.
 
-use diagnostics::LintLevel;
+use diagnostics::DiagnosticLevel;
 use std::alloc::{AllocError, Global};
 
 /// The numbers of manifests, configurations and keys that were checked, of files that could not be read, and of
@@ -91,12 +91,12 @@ impl Counts {
     }
 
     /// Counts a diagnostic of this level. Allowed diagnostics are not counted.
-    pub fn add(&mut self, level: LintLevel) {
+    pub fn add(&mut self, level: DiagnosticLevel) {
         match level {
-            LintLevel::Error => self.errors = self.errors.saturating_add(1),
-            LintLevel::Warning => self.warnings = self.warnings.saturating_add(1),
-            LintLevel::Note => self.notes = self.notes.saturating_add(1),
-            LintLevel::Allowed => {}
+            DiagnosticLevel::Error => self.errors = self.errors.saturating_add(1),
+            DiagnosticLevel::Warning => self.warnings = self.warnings.saturating_add(1),
+            DiagnosticLevel::Note => self.notes = self.notes.saturating_add(1),
+            DiagnosticLevel::Allowed => {}
         }
     }
 

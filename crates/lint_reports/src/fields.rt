@@ -1,7 +1,9 @@
 //! Fields under the keys of `target` that Cargo does not read in its own configuration.
 
 use cargo_platform::shown_start;
-use manifest_lints_findings::{Children, Level, Lint, Site, TableDiagnostic, add_at_top, near};
+use manifest_lints_findings::{
+    Children, Level, Lint, Site, TableDiagnostic, add_top_level_diagnostics, near,
+};
 use std::alloc::{AllocError, Global};
 use toml::{Table, Value};
 
@@ -146,7 +148,7 @@ pub fn wrong_fields(
     configuration: &Table,
 ) -> Result<Vec<TableDiagnostic>, AllocError> {
     let mut found = Vec::new(alloc);
-    add_at_top(alloc, configuration, &mut found)?;
+    add_top_level_diagnostics(alloc, configuration, &mut found)?;
     if let Some(Value::Table(targets)) = configuration.get(TARGET) {
         for (key, value) in targets.iter() {
             if let Some(fields) = value.as_table() {

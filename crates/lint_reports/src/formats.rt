@@ -4,7 +4,7 @@ use crate::cargo_json::push_cargo_message;
 use crate::escapes::escaped;
 use crate::sarif::{push_notification, push_result, sarif_begin, sarif_end};
 use diagnostics::{
-    Diagnostic, EmittedDiagnostic, LintLevel, coloured, end_of, level_word, push_rendered,
+    Diagnostic, DiagnosticLevel, EmittedDiagnostic, coloured, end_of, level_word, push_rendered,
 };
 use key_answers::json_lines;
 use manifests::key_locations::Location;
@@ -181,11 +181,11 @@ fn push_json(
 }
 
 /// Returns the workflow command for a level.
-fn command_word(level: LintLevel) -> &'static str {
+fn command_word(level: DiagnosticLevel) -> &'static str {
     match level {
-        LintLevel::Error => "error",
-        LintLevel::Warning => "warning",
-        LintLevel::Note | LintLevel::Allowed => "notice",
+        DiagnosticLevel::Error => "error",
+        DiagnosticLevel::Warning => "warning",
+        DiagnosticLevel::Note | DiagnosticLevel::Allowed => "notice",
     }
 }
 

@@ -6,7 +6,7 @@ use former_names::{
     Bounds, Release, Verdict, former_fact, former_target, has_former_value, name_now,
 };
 use manifest_lints_findings::{Children, Level, Lint, Site, TableDiagnostic};
-use manifests::{Declared, Targets, target_keys};
+use manifests::{ExpectedCfgs, Targets, target_keys};
 use predicate_classes::key_spans::spans_of;
 use std::alloc::{AllocError, Global};
 use toml::Table;
@@ -203,7 +203,7 @@ fn formers_among<'a>(
     alloc: Global,
     values: &[&'a Cfg],
     spans: &[Span],
-    declared: &Declared<'_>,
+    declared: &ExpectedCfgs<'_>,
 ) -> Result<Vec<FormerFact<'a>>, AllocError> {
     let mut facts: Vec<FormerFact<'a>> = Vec::new(alloc);
     for (index, value) in values.iter().enumerate() {
@@ -264,7 +264,7 @@ impl FormerNames {
         &mut self,
         alloc: Global,
         key: &str,
-        declared: &Declared<'_>,
+        declared: &ExpectedCfgs<'_>,
         project: &ToolchainSettings<'_>,
     ) -> Result<(), AllocError> {
         if let Some(bounds) = former_target(key) {
@@ -302,7 +302,7 @@ impl FormerNames {
         if keys.is_empty() {
             return Ok(formers);
         }
-        let declared = Declared::of(alloc, manifest)?;
+        let declared = ExpectedCfgs::of(alloc, manifest)?;
         for key in &keys {
             formers.add_key(alloc, key.key, &declared, project)?;
         }

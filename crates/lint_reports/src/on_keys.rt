@@ -2,7 +2,7 @@
 
 use diagnostics::{Diagnostic, Label, default_level};
 use manifest_lints_findings::{Children, Finding, Lint, Report, Site, TableDiagnostic};
-use manifests::key_locations::{Location, Locations};
+use manifests::key_locations::{Location, SourceMap};
 use std::alloc::{AllocError, Global};
 use toml_spans::Span;
 
@@ -27,7 +27,7 @@ fn key_text(
 /// Returns the place of a key without its quotes, or with them if it is not known otherwise.
 fn whole_key(
     alloc: Global,
-    locations: &Locations,
+    locations: &SourceMap,
     key: &str,
 ) -> Result<Option<Location>, AllocError> {
     let whole = Span {
@@ -43,7 +43,7 @@ fn whole_key(
 /// Adds the places of parts of a key that are known.
 fn add_parts(
     alloc: Global,
-    locations: &Locations,
+    locations: &SourceMap,
     key: &str,
     parts: &[Span],
     found: &mut Vec<Location>,
@@ -59,7 +59,7 @@ fn add_parts(
 /// Adds the places of fields of a key that are known.
 fn add_fields(
     alloc: Global,
-    locations: &Locations,
+    locations: &SourceMap,
     key: &str,
     fields: &[String],
     found: &mut Vec<Location>,
@@ -75,7 +75,7 @@ fn add_fields(
 /// Adds the place of a whole key, unless there is a place.
 fn add_whole(
     alloc: Global,
-    locations: &Locations,
+    locations: &SourceMap,
     key: &str,
     found: &mut Vec<Location>,
 ) -> Result<(), AllocError> {
@@ -91,7 +91,7 @@ fn add_whole(
 /// Adds the place of the error in a rejected key.
 fn add_error(
     alloc: Global,
-    locations: &Locations,
+    locations: &SourceMap,
     key: &str,
     finding: &Finding,
     found: &mut Vec<Location>,
@@ -111,7 +111,7 @@ fn add_error(
 /// Returns the places that a finding on a key points to: names and pairs, fields, or an error, and else the key.
 fn places_of(
     alloc: Global,
-    locations: &Locations,
+    locations: &SourceMap,
     key: &str,
     finding: &Finding,
 ) -> Result<Vec<Location>, AllocError> {
@@ -127,7 +127,7 @@ fn places_of(
 /// Returns the places that a finding points to. One without a key points to `target`.
 fn places_in(
     alloc: Global,
-    locations: &Locations,
+    locations: &SourceMap,
     key: &Option<String>,
     finding: &Finding,
 ) -> Result<Vec<Location>, AllocError> {
@@ -144,7 +144,7 @@ fn places_in(
 /// Returns the label of the earlier key with which a finding compares the key.
 fn label_of(
     alloc: Global,
-    locations: &Locations,
+    locations: &SourceMap,
     finding: &Finding,
 ) -> Result<Option<Label>, AllocError> {
     let Some(earlier) = &finding.pointed.earlier else {
@@ -159,7 +159,7 @@ fn label_of(
 /// Returns the place of the whole key, with its quotes, if there is one and its place is known.
 fn key_at(
     alloc: Global,
-    locations: &Locations,
+    locations: &SourceMap,
     key: &Option<String>,
 ) -> Result<Option<Location>, AllocError> {
     match key {
@@ -171,7 +171,7 @@ fn key_at(
 /// Returns the later places of a key, if there is one, and a suggestion for it.
 fn key_again(
     alloc: Global,
-    locations: &Locations,
+    locations: &SourceMap,
     key: &Option<String>,
     is_suggested: bool,
 ) -> Result<Vec<Location>, AllocError> {
@@ -200,7 +200,7 @@ fn copied_children(children: &Children) -> Result<Children, AllocError> {
 /// Returns the diagnostic for a finding of a report on a manifest. Fails if memory is refused.
 pub fn diagnostic_of(
     alloc: Global,
-    locations: &Locations,
+    locations: &SourceMap,
     report: &Report<'_>,
     finding: &Finding,
 ) -> Result<Diagnostic, AllocError> {
@@ -229,7 +229,7 @@ pub fn diagnostic_of(
 /// Returns the place of what is at fault, if it is known. `key` is the key that the diagnostic is about.
 fn place_of_site(
     alloc: Global,
-    locations: &Locations,
+    locations: &SourceMap,
     key: &str,
     site: &Site,
 ) -> Result<Option<Location>, AllocError> {
@@ -244,7 +244,7 @@ fn place_of_site(
 /// Returns the places of what is at fault, or else of the key.
 fn places_of_wrong(
     alloc: Global,
-    locations: &Locations,
+    locations: &SourceMap,
     wrong: &TableDiagnostic,
 ) -> Result<Vec<Location>, AllocError> {
     let mut found = Vec::new(alloc);
@@ -264,7 +264,7 @@ fn places_of_wrong(
 /// Returns the later places of what is at fault, if there are any.
 fn site_again(
     alloc: Global,
-    locations: &Locations,
+    locations: &SourceMap,
     site: &Site,
 ) -> Result<Vec<Location>, AllocError> {
     match site {
@@ -280,7 +280,7 @@ fn site_again(
 /// Returns the place of what a suggestion replaces, the key or else the name at fault, and the later places of that.
 fn replaced_by(
     alloc: Global,
-    locations: &Locations,
+    locations: &SourceMap,
     wrong: &TableDiagnostic,
 ) -> Result<(Option<Location>, Vec<Location>), AllocError> {
     let is_suggested = wrong.suggestion.is_some();
@@ -303,7 +303,7 @@ fn owned(alloc: Global, text: Option<&str>) -> Result<Option<String>, AllocError
 /// Returns the diagnostic for a name in a wrong place. Fails if memory is refused.
 pub fn diagnostic_of_wrong(
     alloc: Global,
-    locations: &Locations,
+    locations: &SourceMap,
     wrong: &TableDiagnostic,
 ) -> Result<Diagnostic, AllocError> {
     let (key_at, also_at) = replaced_by(alloc, locations, wrong)?;

@@ -1,11 +1,11 @@
 //! Diagnostics on the rules in a manifest that are invalid, or that nothing needs.
 
 use crate::codes::{UnknownLint, unknown_subject};
-use crate::settings::{Fault, FaultAt, TOOL, UNDERSCORED_TOOL, WORDS, is_fact};
+use crate::settings::{SettingsError, SettingsErrorAt, TOOL, UNDERSCORED_TOOL, WORDS, is_fact};
 use cargo_platform::{inside_cfg, shown_start};
 use diagnostics::{Diagnostic, Rule, default_level};
 use manifest_lints_findings::{Children, Lint, near};
-use manifests::key_locations::{Location, Locations, path_of};
+use manifests::key_locations::{Location, SourceMap, key_path};
 use std::alloc::{AllocError, Global};
 
 /// The table that contains the table of rules.
@@ -97,27 +97,27 @@ fn no_target_message(alloc: Global) -> Result<String, AllocError> {
 }
 
 /// Returns what is wrong in a table of rules.
-fn wrong_of(alloc: Global, fault: &Fault) -> Result<Wrong, AllocError> {
+fn wrong_of(alloc: Global, fault: &SettingsError) -> Result<Wrong, AllocError> {
     let message = match fault {
-        Fault::NoTable => format!(in alloc; "`{TOOL}` is not a table")?,
-        Fault::NoList(word) => format!(in alloc; "`{word}` is not a list")?,
-        Fault::NoEntry(word) => no_entry_message(alloc, word)?,
-        Fault::NoText(word) => format!(in alloc; "an entry of `{word}` is not a string")?,
-        Fault::NoRelease(word) => {
+        SettingsError::NoTable => format!(in alloc; "`{TOOL}` is not a table")?,
+        SettingsError::NoList(word) => format!(in alloc; "`{word}` is not a list")?,
+        SettingsError::NoEntry(word) => no_entry_message(alloc, word)?,
+        SettingsError::NoText(word) => format!(in alloc; "an entry of `{word}` is not a string")?,
+        SettingsError::NoRelease(word) => {
             let message = format!(in alloc; "`{word}` is not a release")?;
             let note = "releases are written as `1.84` and `1.84.1`";
             return Wrong::noted(alloc, message, note);
         }
-        Fault::UnknownCode(word) => return unknown_code(alloc, word.as_str()),
-        Fault::UnknownWord(word) => return unknown_word(alloc, word.as_str()),
-        Fault::NoFact(text) => return no_fact(alloc, text.as_str()),
-        Fault::NoTargetEntry => no_target_message(alloc)?,
-        Fault::NoFactsOf(reason) => reason.clone()?,
-        Fault::NoTarget(text) => {
+        SettingsError::UnknownCode(word) => return unknown_code(alloc, word.as_str()),
+        SettingsError::UnknownWord(word) => return unknown_word(alloc, word.as_str()),
+        SettingsError::NoFact(text) => return no_fact(alloc, text.as_str()),
+        SettingsError::NoTargetEntry => no_target_message(alloc)?,
+        SettingsError::NoFactsOf(reason) => reason.clone()?,
+        SettingsError::NoTarget(text) => {
             let text = shown_start(alloc, text.as_str())?;
             format!(in alloc; "`{text}` is not the name of a target")?
         }
-        Fault::Underscored => {
+        SettingsError::Underscored => {
             let message = format!(in alloc; "the table `{UNDERSCORED_TOOL}` has no effect")?;
             return Wrong::or_meant(alloc, message, TOOL);
         }
@@ -149,26 +149,26 @@ fn path_in(
     match entry {
         Some(index) => {
             let index = format!(in alloc; "{index}")?;
-            path_of(alloc, &[part, METADATA, TOOL, field, index.as_str()])
+            key_path(alloc, &[part, METADATA, TOOL, field, index.as_str()])
         }
-        None => path_of(alloc, &[part, METADATA, TOOL, field]),
+        None => key_path(alloc, &[part, METADATA, TOOL, field]),
     }
 }
 
 /// Returns the place of the whole table of rules in a part of a manifest.
 fn at_table(
     alloc: Global,
-    locations: &Locations,
+    locations: &SourceMap,
     part: &str,
 ) -> Result<Option<Location>, AllocError> {
-    let path = path_of(alloc, &[part, METADATA, TOOL])?;
+    let path = key_path(alloc, &[part, METADATA, TOOL])?;
     Ok(locations.location_of_path(path.as_str()))
 }
 
 /// Returns the place of an entry of the rules in a part of a manifest, or else of the field, or else of the table.
 fn place_in(
     alloc: Global,
-    locations: &Locations,
+    locations: &SourceMap,
     part: &str,
     field: &str,
     entry: Option<usize>,
@@ -216,14 +216,14 @@ fn on_rules(
 /// Returns the diagnostic on an error in the rules of `part`, `package` or `workspace`. Fails if memory is refused.
 pub fn diagnostic_of_fault(
     alloc: Global,
-    locations: &Locations,
+    locations: &SourceMap,
     part: &str,
-    it: &FaultAt,
+    it: &SettingsErrorAt,
 ) -> Result<Diagnostic, AllocError> {
     let wrong = wrong_of(alloc, &it.fault)?;
     let at = match it.fault {
-        Fault::Underscored => {
-            let path = path_of(alloc, &[part, METADATA, UNDERSCORED_TOOL])?;
+        SettingsError::Underscored => {
+            let path = key_path(alloc, &[part, METADATA, UNDERSCORED_TOOL])?;
             locations.location_of_path(path.as_str())
         }
         _ => place_in(alloc, locations, part, it.field.as_str(), it.entry)?,
@@ -235,7 +235,7 @@ pub fn diagnostic_of_fault(
 /// memory is refused.
 pub fn diagnostic_of_unneeded(
     alloc: Global,
-    locations: &Locations,
+    locations: &SourceMap,
     part: &str,
     rule: &Rule,
 ) -> Result<Diagnostic, AllocError> {

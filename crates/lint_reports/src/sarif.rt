@@ -2,7 +2,9 @@
 
 use crate::codes::{Explained, all_explained};
 use crate::escapes::{braced, uri_of};
-use diagnostics::{EmittedDiagnostic, LintLevel, Replacement, end_of, level_word, replacement_of};
+use diagnostics::{
+    DiagnosticLevel, EmittedDiagnostic, Replacement, end_of, level_word, replacement_of,
+};
 use key_answers::json_lines;
 use manifests::key_locations::Location as Place;
 use serde::Serialize;
@@ -239,9 +241,9 @@ pub fn sarif_end(alloc: Global, notifications: &str) -> Result<String, AllocErro
 }
 
 /// Returns the name of a result's level.
-fn sarif_level(level: LintLevel) -> &'static str {
+fn sarif_level(level: DiagnosticLevel) -> &'static str {
     match level {
-        LintLevel::Allowed => "none",
+        DiagnosticLevel::Allowed => "none",
         level => level_word(level),
     }
 }

@@ -1,7 +1,7 @@
 //! The rules in the metadata of a manifest.
 
 use cargo_platform::{Cfg, Platform, ReadError};
-use diagnostics::{Rule, Setting, Subject};
+use diagnostics::{LintLevel, Rule, Subject};
 use former_names::Release;
 use std::alloc::{AllocError, Global};
 use toml::{Table, Value};
@@ -10,7 +10,7 @@ use toml::{Table, Value};
 pub const TOOL: &str = "manifest-check";
 
 /// The settings in the order of their rules: if a lint is in several lists, the last list decides.
-const SETTINGS: [Setting; 3] = [Setting::Allow, Setting::Warn, Setting::Deny];
+const SETTINGS: [LintLevel; 3] = [LintLevel::Allow, LintLevel::Warn, LintLevel::Deny];
 
 /// The list of targets that a project has in addition to those of rustc.
 const KNOWN_TARGETS: &str = "known-targets";
@@ -23,7 +23,7 @@ const RUSTC: &str = "rustc";
 
 /// An error in a table of rules.
 #[derive(Drop)]
-pub enum Fault {
+pub enum SettingsError {
     /// The value is not a table.
     NoTable,
     /// The value of this field is not a list.
@@ -58,8 +58,8 @@ pub const WORDS: [&str; 6] = ["allow", "warn", "deny", KNOWN_TARGETS, KNOWN_FACT
 
 /// An error in a table of rules, with its place in the table.
 #[derive(Drop)]
-pub struct FaultAt {
-    pub fault: Fault,
+pub struct SettingsErrorAt {
+    pub fault: SettingsError,
     /// The field that is at fault, or the empty text for the whole table.
     pub field: String,
     /// The index of the entry at fault, if the field is a list.
@@ -90,7 +90,7 @@ pub struct Settings {
     /// The release of rustc that builds the project.
     pub rustc: Option<Release>,
     /// The errors in the table.
-    pub faults: Vec<FaultAt>,
+    pub faults: Vec<SettingsErrorAt>,
 }
 
 /// Returns the value of this name in `package.metadata` or `workspace.metadata` of a manifest, if there is one. `part`
@@ -173,10 +173,10 @@ impl Settings {
         alloc: Global,
         field: &str,
         entry: Option<usize>,
-        fault: Fault,
+        fault: SettingsError,
     ) -> Result<(), AllocError> {
         let field = String::from_str(alloc, field)?;
-        self.faults.push(FaultAt {
+        self.faults.push(SettingsErrorAt {
             fault,
             field,
             entry,
@@ -188,13 +188,13 @@ impl Settings {
     fn add_entry(
         &mut self,
         alloc: Global,
-        setting: Setting,
+        setting: LintLevel,
         (index, entry): (usize, &Value),
         of_keys: bool,
     ) -> Result<(), AllocError> {
         let Some((word, key)) = named_by(entry) else {
             if !of_keys {
-                let fault = Fault::NoEntry(setting.word());
+                let fault = SettingsError::NoEntry(setting.word());
                 self.add_fault(alloc, setting.word(), Some(index), fault)?;
             }
             return Ok(());
@@ -203,7 +203,7 @@ impl Settings {
             return Ok(());
         }
         let Some(subject) = Subject::of(word) else {
-            let fault = Fault::UnknownCode(String::from_str(alloc, word)?);
+            let fault = SettingsError::UnknownCode(String::from_str(alloc, word)?);
             return self.add_fault(alloc, setting.word(), Some(index), fault);
         };
         let key = match key {
@@ -230,7 +230,7 @@ impl Settings {
                 }
                 Some(_) => {
                     if !of_keys {
-                        let fault = Fault::NoList(setting.word());
+                        let fault = SettingsError::NoList(setting.word());
                         self.add_fault(alloc, setting.word(), None, fault)?;
                     }
                 }
@@ -253,11 +253,16 @@ impl Settings {
                 for (index, entry) in entries.iter().enumerate() {
                     match entry.as_str() {
                         Some(text) => texts.push(String::from_str(alloc, text)?)?,
-                        None => self.add_fault(alloc, word, Some(index), Fault::NoText(word))?,
+                        None => self.add_fault(
+                            alloc,
+                            word,
+                            Some(index),
+                            SettingsError::NoText(word),
+                        )?,
                     }
                 }
             }
-            Some(_) => self.add_fault(alloc, word, None, Fault::NoList(word))?,
+            Some(_) => self.add_fault(alloc, word, None, SettingsError::NoList(word))?,
             None => {}
         }
         Ok(texts)
@@ -275,7 +280,7 @@ impl Settings {
         };
         let release = release_of(value);
         if release.is_none() {
-            self.add_fault(alloc, word, None, Fault::NoRelease(word))?;
+            self.add_fault(alloc, word, None, SettingsError::NoRelease(word))?;
         }
         Ok(release)
     }
@@ -283,11 +288,21 @@ impl Settings {
     /// Adds the target of the entry of `known-targets` at an index, or records that it names none.
     fn add_target(&mut self, alloc: Global, index: usize, entry: &Value) -> Result<(), AllocError> {
         let Some((name, file)) = target_in(entry) else {
-            return self.add_fault(alloc, KNOWN_TARGETS, Some(index), Fault::NoTargetEntry);
+            return self.add_fault(
+                alloc,
+                KNOWN_TARGETS,
+                Some(index),
+                SettingsError::NoTargetEntry,
+            );
         };
         let name = String::from_str(alloc, name)?;
         if !is_target_name(alloc, name.as_str())? {
-            return self.add_fault(alloc, KNOWN_TARGETS, Some(index), Fault::NoTarget(name));
+            return self.add_fault(
+                alloc,
+                KNOWN_TARGETS,
+                Some(index),
+                SettingsError::NoTarget(name),
+            );
         }
         if let Some(file) = file {
             self.custom_targets.push(CustomTarget {
@@ -309,7 +324,14 @@ impl Settings {
                 }
                 Ok(())
             }
-            Some(_) => { self.add_fault(alloc, KNOWN_TARGETS, None, Fault::NoList(KNOWN_TARGETS)) }
+            Some(_) => {
+                self.add_fault(
+                    alloc,
+                    KNOWN_TARGETS,
+                    None,
+                    SettingsError::NoList(KNOWN_TARGETS),
+                )
+            }
             None => Ok(()),
         }
     }
@@ -321,7 +343,12 @@ impl Settings {
         entry: usize,
         reason: String,
     ) -> Result<(), AllocError> {
-        self.add_fault(alloc, KNOWN_TARGETS, Some(entry), Fault::NoFactsOf(reason))
+        self.add_fault(
+            alloc,
+            KNOWN_TARGETS,
+            Some(entry),
+            SettingsError::NoFactsOf(reason),
+        )
     }
 
     /// Records the entries of `known-facts` that are no facts: they have no effect.
@@ -329,7 +356,7 @@ impl Settings {
         for (index, text) in texts_at(table, KNOWN_FACTS).iter().enumerate() {
             let text = text.as_str().unwrap_or("a");
             if !is_fact(alloc, text)? {
-                let fault = Fault::NoFact(String::from_str(alloc, text)?);
+                let fault = SettingsError::NoFact(String::from_str(alloc, text)?);
                 self.add_fault(alloc, KNOWN_FACTS, Some(index), fault)?;
             }
         }
@@ -341,7 +368,7 @@ impl Settings {
     pub fn in_part(alloc: Global, manifest: &Table, part: &str) -> Result<Settings, AllocError> {
         let mut settings = Settings::of(alloc, settings_at(manifest, part))?;
         if metadata_at(manifest, part, UNDERSCORED_TOOL).is_some() {
-            settings.add_fault(alloc, "", None, Fault::Underscored)?;
+            settings.add_fault(alloc, "", None, SettingsError::Underscored)?;
         }
         Ok(settings)
     }
@@ -372,12 +399,12 @@ impl Settings {
                 settings.add_lists(alloc, table, true)?;
                 for (word, _) in table.iter() {
                     if !is_word(word.as_str()) {
-                        let fault = Fault::UnknownWord(word.clone()?);
+                        let fault = SettingsError::UnknownWord(word.clone()?);
                         settings.add_fault(alloc, word.as_str(), None, fault)?;
                     }
                 }
             }
-            Some(_) => settings.add_fault(alloc, "", None, Fault::NoTable)?,
+            Some(_) => settings.add_fault(alloc, "", None, SettingsError::NoTable)?,
             None => {}
         }
         Ok(settings)

@@ -88,7 +88,7 @@ pub(crate) fn has_deep(alloc: Global, manifest: &Table) -> Result<bool, AllocErr
 
 /// Returns the first key of a manifest, in the order of their bytes, that is nested too deeply, or `None` if there is
 /// none.
-pub fn first_deep(alloc: Global, manifest: &Manifest) -> Result<Option<DeepKey>, AllocError>
+pub fn first_too_deep_key(alloc: Global, manifest: &Manifest) -> Result<Option<DeepKey>, AllocError>
     ensures { IfOk result
         (λ found. IfNone found (HasNoDeepKey (target_of (table_view manifest.now.document.table)))) }
 {

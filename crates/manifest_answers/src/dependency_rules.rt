@@ -6,7 +6,7 @@ use semver::VersionReq;
 use std::alloc::{AllocError, Global};
 use toml::{Table, Value};
 use unicode_ident::{is_xid_continue, is_xid_start};
-use workspaces::{first_mistyped_field, inheritance_error, mistyped_beside};
+use workspaces::{first_mistyped_addition, first_mistyped_field, inheritance_error};
 
 /// The fields of a dependency that are texts.
 const TEXTS: [&str; 9] = [
@@ -240,7 +240,7 @@ fn bad_inherited(
     if !inheriting.is_known {
         return Ok(None);
     }
-    let found = bad_type(alloc, mistyped_beside(table))?;
+    let found = bad_type(alloc, first_mistyped_addition(table))?;
     if found.is_some() {
         return Ok(found);
     }

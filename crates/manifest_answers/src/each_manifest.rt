@@ -5,7 +5,7 @@ ghost use Rattle.manifests.specs.Tables.{target_of};
 ghost use Rattle.manifest_answers.specs.Deep.{HasNoDeepKey};
 
 use crate::cargo_refuses::Rejected;
-use crate::deep::first_deep;
+use crate::deep::first_too_deep_key;
 use crate::normalizing::{NormalizedManifest, read_normalized};
 use input_limits::InputError;
 use key_answers::answer::{Answer, Status};
@@ -64,7 +64,7 @@ fn add_answer_on_read<Q: ManifestQuery>(
     whole: &mut Answer,
 ) -> Result<(), AllocError> {
     let manifest = &taken.manifest;
-    match first_deep(alloc, manifest)? {
+    match first_too_deep_key(alloc, manifest)? {
         Some(deep) => {
             let line = deep.line(alloc)?;
             let reason = deep.reason.as_str();

@@ -5,7 +5,7 @@ use cargo_platform::{Cfg, CfgExpr, Platform};
 use exact_answers::{CanSelect, FactConstraints, MustSelect, always_platform, can_hold_platform};
 use input_limits::strip_byte_order_mark;
 use key_answers::answer::QueryError;
-use key_answers::printing::{refused_fact, shown_name};
+use key_answers::printing::{invalid_fact_message, shown_name};
 use known_targets::{COUNT, KnownTarget, RUSTC_VERSION, TargetSet, targets_with_fact};
 use manifest_lints_findings::near;
 use manifests::TargetFacts;
@@ -67,7 +67,7 @@ fn lines_of(alloc: Global, text: &str) -> Result<String, AllocError> {
 fn refused_file(alloc: Global, file: &str, error: &TableError) -> Result<QueryError, AllocError> {
     let line = match error {
         TableError::Line { number, error } => {
-            let message = refused_fact(alloc, *number, error)?;
+            let message = invalid_fact_message(alloc, *number, error)?;
             let message = message.as_str().strip_prefix("error: ").unwrap_or("");
             format!(in alloc; "{file}: error: {message}")?
         }

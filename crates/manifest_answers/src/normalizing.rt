@@ -68,10 +68,10 @@ fn document_at<R: Files + Input + AllocGlobal>(
     }
 }
 
-/// Returns the manifest that is named, with the lines of its keys where they are asked for, or a key is too deep. It is
-/// taken from the documents, if it is among them, and else read.
+/// Returns the manifest at a path, from the cache if it is there, and otherwise from its file. It has the lines of its
+/// keys if the query needs them, or if a key is nested too deep.
 ///
-/// Fails if it can't be used.
+/// Fails if the manifest cannot be read.
 pub fn manifest_at<R: Files + Input + AllocGlobal>(
     rt: &R,
     documents: &mut ManifestCache,

@@ -12,10 +12,10 @@ use input_limits::strip_byte_order_mark;
 use key_answers::answer::{Answer, QueryError, Status};
 use key_answers::conditions::read_key;
 use key_answers::json_lines;
-use key_answers::printing::{fact_lines, refused_cfg, refused_fact, shown_name};
+use key_answers::printing::{fact_lines, invalid_cfg_message, invalid_fact_message, shown_name};
 use key_answers::targets::names_of;
 use known_targets::{COUNT, KnownTarget, RUSTC_VERSION, TargetSet, matching, targets_with_fact};
-use manifest_lints_findings::{Code, Finding, KnownFacts, lint_condition, nearest_target};
+use manifest_lints_findings::{Finding, KeyLint, KnownFacts, lint_condition, nearest_target};
 use serde::Serialize;
 use std::alloc::{AllocError, Global};
 
@@ -59,8 +59,8 @@ fn without_facts(alloc: Global, name: &str) -> Result<String, AllocError> {
 }
 
 /// Returns whether `match` reports a finding of this lint: not what only `--cfg` sets, if facts are given.
-fn is_reported(code: Code, has_facts: bool) -> bool {
-    code != Code::Custom || !has_facts
+fn is_reported(code: KeyLint, has_facts: bool) -> bool {
+    code != KeyLint::Custom || !has_facts
 }
 
 /// Appends the lines of a finding: its message, and what belongs to it.
@@ -98,7 +98,7 @@ fn unknown_lines(
 
 /// Returns the warnings for names and values in a key that rustc sets on no known target, and for an unknown target
 /// name, each with its helps and notes. There is none for what only `--cfg` sets, or for an empty key.
-pub fn unknown_words(alloc: Global, key: &str) -> Result<String, QueryError> {
+pub fn unknown_name_warnings(alloc: Global, key: &str) -> Result<String, QueryError> {
     if key.is_empty() {
         return Ok(String::new(alloc));
     }
@@ -131,7 +131,7 @@ fn unknown_in_file(
         if given.has_name(name.as_str()) {
             return Ok(String::new(alloc));
         }
-        let word = Code::UnknownTarget.word();
+        let word = KeyLint::UnknownTarget.word();
         let message = given.unknown(alloc, name.as_str())?;
         return format!(in alloc; "warning[{word}]: {message}\n");
     }
@@ -326,7 +326,7 @@ pub(crate) fn facts_of_lines(alloc: Global, text: &str) -> Result<Vec<Cfg>, Quer
         Err(FactsError::Memory(refused)) => Err(QueryError::Memory(refused)),
         Err(FactsError::Line { number, error }) => {
             let line = line_of_fact(text, number);
-            Err(QueryError::Unusable(refused_fact(alloc, line, &error)?))
+            Err(QueryError::Unusable(invalid_fact_message(alloc, line, &error)?))
         }
     }
 }
@@ -360,7 +360,9 @@ fn added_fact(alloc: Global, text: &str) -> Result<Cfg, QueryError> {
     match Cfg::from_str(alloc, text) {
         Ok(fact) => Ok(fact),
         Err(ReadError::Memory(refused)) => Err(QueryError::Memory(refused)),
-        Err(ReadError::Parse(error)) => Err(QueryError::Unusable(refused_cfg(alloc, &error)?)),
+        Err(ReadError::Parse(error)) => Err(QueryError::Unusable(invalid_cfg_message(
+            alloc, &error,
+        )?)),
     }
 }
 

@@ -10,7 +10,7 @@ use crate::questions::{added_facts, facts_from, unknown_name};
 use cargo_platform::{Cfg, ParseError, shown_start};
 use key_answers::answer::{Answer, QueryError, Status};
 use key_answers::json_lines;
-use key_answers::printing::{key_reason, refused_key};
+use key_answers::printing::{invalid_key_message, key_reason};
 use known_targets::KnownTarget;
 use manifest_lints_findings::shown_table;
 use manifests::reading::Manifest;
@@ -234,7 +234,7 @@ fn refused_key_lines(
     key: &str,
     error: &ParseError,
 ) -> Result<String, AllocError> {
-    let fault = refused_key(alloc, key, error)?;
+    let fault = invalid_key_message(alloc, key, error)?;
     format!(in alloc; "{path}: {fault}")
 }
 
@@ -454,7 +454,7 @@ pub struct Target {
 
 /// The options of `select`, beside its targets.
 #[derive(Clone, Copy, Drop)]
-pub struct Selection<'a> {
+pub struct SelectOptions<'a> {
     /// The name of the target, if it is the only one, and the output format.
     pub errors: ErrorReporter<'a>,
     /// The names and keys whose facts are open.
@@ -569,7 +569,7 @@ pub fn select_each<R: Files + Input + Env + AllocGlobal>(
     documents: &mut ManifestCache,
     paths: &[&str],
     targets: &[Target],
-    selection: &Selection<'_>,
+    selection: &SelectOptions<'_>,
 ) -> Result<Answer, QueryError> {
     let alloc = rt.alloc();
     let targets = known_of_each(alloc, targets, selection.facts_from)?;

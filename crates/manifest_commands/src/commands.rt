@@ -19,7 +19,7 @@ use lint_fixes::FixOptions;
 use manifest_answers::faults::ErrorReporter;
 use manifest_answers::given_targets::{FactsFrom, GivenTargets};
 use manifest_answers::questions;
-use manifest_answers::selecting::{Selection, select_each};
+use manifest_answers::selecting::{SelectOptions, select_each};
 use std::alloc::{AllocError, Global};
 use std::rt::{Env, Files};
 use workspaces::ManifestCache;
@@ -109,7 +109,7 @@ fn selected_by<R: Files + Input + Env + AllocGlobal + Clone + Drop>(
 ) -> Result<Answer, QueryError> {
     let alloc = rt.alloc();
     let errors = selection_errors(matches);
-    let selection = Selection {
+    let selection = SelectOptions {
         errors,
         open: matches.get_strs("open").unwrap_or(&[]),
         facts_from: from,

@@ -7,7 +7,7 @@ use crate::reports::{Report, report_on};
 use crate::words::command_given;
 use cargo_platform::shown_text;
 use clap::ArgMatches;
-use graph_queries::query::{GraphArguments, Provenance, Requested};
+use graph_queries::query::{FeatureArguments, GraphArguments, Provenance};
 use input_limits::INPUT;
 use key_answers::answer::{Answer, QueryError, answer_or_error};
 use manifest_answers::given_targets::GivenTargets;
@@ -174,7 +174,7 @@ fn answer_with<R: Files + Input + Env + AllocGlobal>(
         fail_on: matches.get_str("fail-on"),
         markdown: matches.get_flag("markdown"),
         except: matches.get_strs("except").unwrap_or(&[]),
-        requested: Requested {
+        requested: FeatureArguments {
             resolver: matches.get_str("resolver"),
             features: matches.get_strs("features").unwrap_or(&[]),
             no_default: matches.get_flag("no-default-features"),

@@ -1,23 +1,23 @@
 //! The options of `lint` that set the levels of lints, and the one that sets when the run fails.
 
 use clap::ArgMatches;
-use diagnostics::{LintLevel, Rule, Setting, Subject};
+use diagnostics::{DiagnosticLevel, LintLevel, Rule, Subject};
 use key_answers::answer::{QueryError, argument_error};
 use lint_reports::codes::unknown_subject;
 use std::alloc::{AllocError, Global};
 
 /// The options that set levels.
-const OPTIONS: [Setting; 3] = [Setting::Allow, Setting::Warn, Setting::Deny];
+const OPTIONS: [LintLevel; 3] = [LintLevel::Allow, LintLevel::Warn, LintLevel::Deny];
 
 /// Returns the least level of diagnostics that make `lint` fail, or `None` if none does.
-pub fn fails_from(matches: &ArgMatches<'_>) -> Option<LintLevel> {
+pub fn fails_from(matches: &ArgMatches<'_>) -> Option<DiagnosticLevel> {
     if matches.get_flag("exit-zero") {
         return None;
     }
     match matches.get_str("fail-on") {
-        Some("error") => Some(LintLevel::Error),
-        Some("note") => Some(LintLevel::Note),
-        _ => Some(LintLevel::Warning),
+        Some("error") => Some(DiagnosticLevel::Error),
+        Some("note") => Some(DiagnosticLevel::Note),
+        _ => Some(DiagnosticLevel::Warning),
     }
 }
 
@@ -29,7 +29,7 @@ struct Placed {
 }
 
 /// Returns the rule of an option with this value. Fails if no lint has the name.
-fn rule_of(alloc: Global, setting: Setting, word: &str) -> Result<Rule, QueryError> {
+fn rule_of(alloc: Global, setting: LintLevel, word: &str) -> Result<Rule, QueryError> {
     match Subject::of(word) {
         Some(subject) => Ok(Rule {
             setting,

@@ -12,7 +12,7 @@ use cargo_configuration::{
 };
 use cargo_platform::{shown_start, shown_text};
 use diagnostics::{
-    Diagnostic, EmittedDiagnostic, LintLevel, Occurrence, Rule, level_by_each, status_of,
+    Diagnostic, DiagnosticLevel, EmittedDiagnostic, Occurrence, Rule, level_by_each, status_of,
 };
 use input_limits::{InputError, strip_byte_order_mark};
 use key_answers::answer::{Answer, Status};
@@ -22,9 +22,9 @@ use lint_reports::{
     diagnostic_of_fault, diagnostic_of_unneeded, diagnostic_of_wrong, wrong_fields,
 };
 use loading::{load_configuration, load_manifest, report_without_place};
-use manifest_lints::{Code, Finding, KnownFacts, Report, lint};
+use manifest_lints::{Finding, KeyLint, KnownFacts, Report, lint};
 use manifest_lints_findings::{TableDiagnostic, table_diagnostics};
-use manifests::key_locations::Locations;
+use manifests::key_locations::SourceMap;
 use manifests::reading::Manifest;
 use std::alloc::{AllocError, Global};
 use std::mem;
@@ -45,7 +45,7 @@ pub struct LintOptions {
     /// True if there is no summary.
     pub is_quiet: bool,
     /// The least level of diagnostics that make the run fail. With `None`, none does.
-    pub fails_from: Option<LintLevel>,
+    pub fails_from: Option<DiagnosticLevel>,
     /// True if no package is left out.
     pub is_whole: bool,
     /// The rustc whose targets and facts count instead of the built-in ones.
@@ -99,7 +99,7 @@ struct Source<'a> {
 }
 
 /// Returns the level of a diagnostic after the rules. They do not change that of one without a lint.
-fn lint_level(rules: &Rules<'_>, diagnostic: &Diagnostic) -> LintLevel {
+fn lint_level(rules: &Rules<'_>, diagnostic: &Diagnostic) -> DiagnosticLevel {
     match diagnostic.occurrence() {
         Some(occurrence) => level_by_each(
             rules.of_workspace,
@@ -121,7 +121,7 @@ impl<'a> LintRun<'a> {
         diagnostic: &Diagnostic,
     ) -> Result<(), AllocError> {
         let level = lint_level(rules, diagnostic);
-        if level == LintLevel::Allowed {
+        if level == DiagnosticLevel::Allowed {
             return Ok(());
         }
         if let Some(fixes) = &mut self.fixes {
@@ -134,7 +134,7 @@ impl<'a> LintRun<'a> {
     fn report(
         &mut self,
         alloc: Global,
-        level: LintLevel,
+        level: DiagnosticLevel,
         source: &Source<'_>,
         diagnostic: &Diagnostic,
     ) -> Result<(), AllocError> {
@@ -184,7 +184,7 @@ impl<'a> LintRun<'a> {
                 of_package: &[],
                 of_command: &self.options.rules,
             };
-            if lint_level(&rules, diagnostic) != LintLevel::Allowed {
+            if lint_level(&rules, diagnostic) != DiagnosticLevel::Allowed {
                 fixes.add(alloc, locations.text.as_str(), diagnostic)?;
             }
         }
@@ -257,11 +257,11 @@ fn places_at<R: Files + AllocGlobal>(
     rt: &R,
     documents: &mut ManifestCache,
     file: &str,
-) -> Result<Locations, AllocError> {
+) -> Result<SourceMap, AllocError> {
     let alloc = rt.alloc();
     match documents.get(rt, file)? {
-        Some(document) => Locations::of(alloc, strip_byte_order_mark(document.text.as_str())),
-        None => Ok(Locations::none(alloc)),
+        Some(document) => SourceMap::of(alloc, strip_byte_order_mark(document.text.as_str())),
+        None => Ok(SourceMap::none(alloc)),
     }
 }
 
@@ -269,7 +269,7 @@ fn places_at<R: Files + AllocGlobal>(
 fn found_in_root(
     alloc: Global,
     root: &Root,
-    locations: &Locations,
+    locations: &SourceMap,
     is_whole: bool,
 ) -> Result<Vec<Diagnostic>, AllocError> {
     let mut found = faults_in(alloc, &root.settings, locations, WORKSPACE)?;
@@ -288,7 +288,7 @@ fn found_in_root(
 fn faults_in(
     alloc: Global,
     settings: &Settings,
-    locations: &Locations,
+    locations: &SourceMap,
     part: &str,
 ) -> Result<Vec<Diagnostic>, AllocError> {
     let mut found = Vec::new(alloc);
@@ -302,7 +302,7 @@ fn faults_in(
 fn found_in_settings(
     alloc: Global,
     settings: &Settings,
-    locations: &Locations,
+    locations: &SourceMap,
     occurrences: &[Occurrence<'_>],
 ) -> Result<Vec<Diagnostic>, AllocError> {
     let mut found = faults_in(alloc, settings, locations, PACKAGE)?;
@@ -363,8 +363,8 @@ fn is_known(root: &Root, beside: &Beside<'_>, name: &str) -> bool {
 /// declares.
 fn is_left_out(root: &Root, report: &Report<'_>, beside: &Beside<'_>, finding: &Finding) -> bool {
     match finding.code {
-        Code::Custom => root.hides_lints,
-        Code::UnknownTarget => match finding.key {
+        KeyLint::Custom => root.hides_lints,
+        KeyLint::UnknownTarget => match finding.key {
             Some(place) => match report.keys.get(place) {
                 Some(key) => is_known(root, beside, key.text),
                 None => false,
@@ -387,7 +387,7 @@ struct OnKey {
 fn found_on_keys(
     alloc: Global,
     root: &Root,
-    locations: &Locations,
+    locations: &SourceMap,
     report: &Report<'_>,
     beside: &Beside<'_>,
 ) -> Result<Vec<OnKey>, AllocError> {
@@ -416,7 +416,7 @@ fn found_on_keys(
 fn found_in(
     alloc: Global,
     root: &Root,
-    locations: &Locations,
+    locations: &SourceMap,
     report: &Report<'_>,
     beside: &Beside<'_>,
 ) -> Result<Vec<Diagnostic>, AllocError> {
@@ -436,7 +436,7 @@ fn found_in(
 /// Returns the diagnostics on names that rustc knew only until some release, in the order of their places.
 fn formers_in(
     alloc: Global,
-    locations: &Locations,
+    locations: &SourceMap,
     formers: &FormerNames,
 ) -> Result<Vec<Diagnostic>, AllocError> {
     let mut found = Vec::new(alloc);

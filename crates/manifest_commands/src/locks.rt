@@ -4,9 +4,9 @@ use crate::VERSION;
 use crate::limits::{limit_of, text_at};
 use cargo_platform::shown_text;
 use clap::ArgMatches;
-use cyclonedx::{LockError, LockFault, LockFile, read_lock};
-use diagnostics::{Diagnostic, EmittedDiagnostic, LintLevel, diagnostic_of_failure};
-use graph_answers::cyclonedx_report::Bill;
+use cyclonedx::{LockFile, LockFileError, LockFileFault, parse_lock_file};
+use diagnostics::{Diagnostic, DiagnosticLevel, EmittedDiagnostic, diagnostic_of_failure};
+use graph_answers::cyclonedx_report::BomContext;
 use input_limits::strip_byte_order_mark;
 use key_answers::answer::QueryError;
 use lint_reports::{Format, Printer, Style};
@@ -42,7 +42,7 @@ fn lines_of<'x>(
 ) -> Result<String, AllocError> {
     let reported = EmittedDiagnostic {
         diagnostic,
-        level: LintLevel::Error,
+        level: DiagnosticLevel::Error,
         path: name,
         text,
     };
@@ -56,8 +56,13 @@ fn lines_of<'x>(
 }
 
 /// Returns an error of a lock file as a diagnostic, as it is printed.
-fn rendered(alloc: Global, name: &str, text: &str, fault: LockFault) -> Result<String, AllocError> {
-    let LockFault { message, span } = fault;
+fn rendered(
+    alloc: Global,
+    name: &str,
+    text: &str,
+    fault: LockFileFault,
+) -> Result<String, AllocError> {
+    let LockFileFault { message, span } = fault;
     let at = match span {
         Some(span) => Some(location_of(text, span)),
         None => None,
@@ -78,13 +83,13 @@ pub fn lock_of<R: Files + AllocGlobal>(
     let read = text_at(rt, file, limit_of(matches))?;
     let text = strip_byte_order_mark(read.as_str());
     let name = shown_text(alloc, file)?;
-    match read_lock(alloc, text) {
+    match parse_lock_file(alloc, text) {
         Ok(lock) => Ok(Some(NamedLock { name, lock })),
-        Err(LockError::Fault(fault)) => {
+        Err(LockFileError::Fault(fault)) => {
             let lines = rendered(alloc, name.as_str(), text, fault)?;
             Err(QueryError::Unusable(lines))
         }
-        Err(LockError::Memory(refused)) => Err(QueryError::Memory(refused)),
+        Err(LockFileError::Memory(refused)) => Err(QueryError::Memory(refused)),
     }
 }
 
@@ -93,9 +98,9 @@ pub fn bill_of<'a>(
     matches: &ArgMatches<'_>,
     seconds: Option<u64>,
     lock: Option<&'a NamedLock>,
-) -> Option<Bill<'a>> {
+) -> Option<BomContext<'a>> {
     matches.get_str("format")?;
-    Some(Bill {
+    Some(BomContext {
         version: VERSION,
         seconds,
         lock: match lock {

@@ -5,10 +5,10 @@ use cargo_platform::{Platform, values_of};
 use former_names::former_target;
 use known_targets::KnownTarget;
 use manifest_answers::given_targets::GivenTargets;
-use manifest_lints::{Code, Report};
+use manifest_lints::{KeyLint, Report};
 use manifest_lints_findings::readings::KeyMeaning;
 use manifest_lints_findings::{Children, Finding, SecondarySpans};
-use manifests::Declared;
+use manifests::ExpectedCfgs;
 use predicate_classes::key_predicates::{key_predicates, open_names};
 use std::alloc::{AllocError, Global};
 use toml::Table;
@@ -58,7 +58,7 @@ impl OtherRustc {
         &self,
         alloc: Global,
         report: &mut Report<'_>,
-        declared: &Declared<'_>,
+        declared: &ExpectedCfgs<'_>,
     ) -> Result<(), AllocError> {
         let named = self.named(alloc, report)?;
         report.findings.retain(|it| stays(it, &named));
@@ -96,7 +96,7 @@ impl OtherRustc {
         alloc: Global,
         added: &mut Vec<Finding>,
         judged: Judged<'_>,
-        declared: &Declared<'_>,
+        declared: &ExpectedCfgs<'_>,
     ) -> Result<(), AllocError> {
         let Judged {
             place,
@@ -115,11 +115,11 @@ impl OtherRustc {
             let message = format!(in alloc;
                 "no target of {file} has facts that make the condition true"
             )?;
-            added.push(finding(alloc, place, Code::Nowhere, message))?;
+            added.push(finding(alloc, place, KeyLint::Nowhere, message))?;
         }
         if each && !hides.everywhere {
             let message = format!(in alloc; "the condition is true on every target of {file}")?;
-            added.push(finding(alloc, place, Code::Everywhere, message))?;
+            added.push(finding(alloc, place, KeyLint::Everywhere, message))?;
         }
         Ok(())
     }
@@ -138,7 +138,7 @@ impl OtherRustc {
     fn unknown(&self, alloc: Global, place: usize, name: &str) -> Result<Finding, AllocError> {
         let file = self.given.file.as_str();
         let message = format!(in alloc; "no target of {file} has this name")?;
-        let mut finding = finding(alloc, place, Code::UnknownTarget, message);
+        let mut finding = finding(alloc, place, KeyLint::UnknownTarget, message);
         if let Some(nearest) = self.given.nearest(alloc, name)? {
             let help = format!(in alloc; "did you mean `{nearest}`?")?;
             finding.children = Children::of_help(alloc, help)?;
@@ -152,7 +152,7 @@ impl OtherRustc {
         &self,
         alloc: Global,
         condition: &Platform,
-        declared: &Declared<'_>,
+        declared: &ExpectedCfgs<'_>,
     ) -> Result<(bool, bool), AllocError> {
         let mut predicates = key_predicates(alloc, &values_of(alloc, condition)?, &[], declared)?;
         let facts = predicates.len();
@@ -206,7 +206,7 @@ pub fn replace_diagnostics(
     report: &mut Report<'_>,
 ) -> Result<(), AllocError> {
     match other {
-        Some(other) => other.judge(alloc, report, &Declared::of(alloc, manifest)?),
+        Some(other) => other.judge(alloc, report, &ExpectedCfgs::of(alloc, manifest)?),
         None => Ok(()),
     }
 }
@@ -214,8 +214,8 @@ pub fn replace_diagnostics(
 /// Returns whether a diagnostic stays in the report. `named` says for each key whether it is the name of a target.
 fn stays(finding: &Finding, named: &[bool]) -> bool {
     match (finding.code, finding.key) {
-        (Code::Nowhere | Code::Everywhere, _) => false,
-        (Code::UnknownTarget, Some(place)) => !named.get(place).copied().unwrap_or(false),
+        (KeyLint::Nowhere | KeyLint::Everywhere, _) => false,
+        (KeyLint::UnknownTarget, Some(place)) => !named.get(place).copied().unwrap_or(false),
         _ => true,
     }
 }
@@ -243,15 +243,15 @@ fn hiding_of(alloc: Global, report: &Report<'_>) -> Result<Vec<Hiding>, AllocErr
             continue;
         };
         if let Some(hides) = hiding.get_mut(place) {
-            hides.nowhere |= Code::Nowhere.row().hidden_by.contains(&it.code);
-            hides.everywhere |= Code::Everywhere.row().hidden_by.contains(&it.code);
+            hides.nowhere |= KeyLint::Nowhere.row().hidden_by.contains(&it.code);
+            hides.everywhere |= KeyLint::Everywhere.row().hidden_by.contains(&it.code);
         }
     }
     Ok(hiding)
 }
 
 /// Returns a diagnostic on the key at this index, without a suggestion.
-fn finding(alloc: Global, place: usize, code: Code, message: String) -> Finding {
+fn finding(alloc: Global, place: usize, code: KeyLint, message: String) -> Finding {
     Finding {
         level: code.row().level,
         code,

@@ -1,7 +1,7 @@
 //! The report of `graph` on the output of `cargo metadata`.
 
 use cargo_platform::shown_text;
-use graph_answers::cyclonedx_report::{Bill, misplaced_format, show_bill};
+use graph_answers::cyclonedx_report::{BomContext, misplaced_format, show_bill};
 use graph_answers::{
     Audit, AuditPolicy, GivenPolicy, GraphNames, arguments_by_policy, exclude, kinds_of, page_of,
     policy_of, reported_in, show_changes, show_licences,
@@ -42,14 +42,14 @@ struct Request<'a, 'b> {
 #[derive(Drop)]
 struct Kind<'a, 'b> {
     audit: Option<Audit<'a>>,
-    bill: Option<Bill<'b>>,
+    bill: Option<BomContext<'b>>,
 }
 
 /// Checks the arguments, with the policy if there is one.
 fn request_of<'a, 'b>(
     alloc: Global,
     arguments: &GraphArguments<'a>,
-    bill: Option<Bill<'b>>,
+    bill: Option<BomContext<'b>>,
     policy: Option<AuditPolicy>,
 ) -> Result<Request<'a, 'b>, QueryError> {
     if bill.is_some() {
@@ -187,7 +187,7 @@ fn report_on_text(
     file: &str,
     text: &str,
     arguments: &GraphArguments<'_>,
-    bill: Option<Bill<'_>>,
+    bill: Option<BomContext<'_>>,
 ) -> Result<Report, QueryError> {
     let Some(policy) = policy_of(alloc, arguments)? else {
         let request = request_of(alloc, arguments, bill, None)?;
@@ -240,7 +240,7 @@ pub fn report_on(
     file: &str,
     text: &str,
     arguments: &GraphArguments<'_>,
-    bill: Option<Bill<'_>>,
+    bill: Option<BomContext<'_>>,
 ) -> Result<Report, AllocError> {
     match report_on_text(alloc, file, text, arguments, bill) {
         Ok(report) => Ok(report),

@@ -2,14 +2,16 @@
 
 use crate::other_rustc::OtherRustc;
 use crate::project_targets::ManifestFile;
-use diagnostics::{Occurrence, Rule, Setting};
+use diagnostics::{LintLevel, Occurrence, Rule};
 use former_names::Release;
 use input_limits::INPUT;
 use lint_reports::Settings;
 use std::alloc::{AllocError, Global};
 use std::rt::{Env, Files};
 use toml::{Table, Value};
-use workspaces::{Document, Inheritable, ManifestCache, inherits_lints, root_of, simplified_path};
+use workspaces::{
+    Document, InheritableFields, ManifestCache, inherits_lints, root_of, simplified_path,
+};
 
 /// The root of a workspace.
 #[derive(Drop)]
@@ -21,7 +23,7 @@ pub struct Root {
     pub other: Option<OtherRustc>,
     /// For each rule, whether a diagnostic needs it.
     pub needed: Vec<bool>,
-    inheritable: Inheritable,
+    inheritable: InheritableFields,
     /// True if its manifest is selected too.
     pub is_selected: bool,
     /// True if the last manifest inherits lints from it that can't be read.
@@ -64,8 +66,8 @@ impl Root {
     fn at(alloc: Global, file: String, document: Option<&Document>) -> Result<Root, AllocError> {
         let (settings, needed) = settings_of(alloc, document)?;
         let inheritable = match document {
-            Some(document) => Inheritable::of(alloc, document)?,
-            None => Inheritable::none(),
+            Some(document) => InheritableFields::of(alloc, document)?,
+            None => InheritableFields::none(),
         };
         Ok(Root {
             file,
@@ -191,5 +193,5 @@ fn is_same_rule(first: &Rule, second: &Rule) -> bool {
 
 /// Returns whether the rule is an `allow` that suppresses no diagnostic.
 pub fn is_unneeded(rule: &Rule, is_needed: bool) -> bool {
-    rule.setting == Setting::Allow && !is_needed
+    rule.setting == LintLevel::Allow && !is_needed
 }

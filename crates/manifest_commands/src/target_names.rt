@@ -1,7 +1,7 @@
 //! The targets that a command line selects, with the facts that compiler flags add to each.
 
 use crate::limits::limit_of;
-use cargo_configuration::{FlagFacts, FlaggedTarget, SharedFlags, flag_facts};
+use cargo_configuration::{RustflagsFacts, RustflagsTarget, SharedRustflags, rustflags_facts};
 use clap::ArgMatches;
 use key_answers::answer::QueryError;
 use key_answers::targets::names_of;
@@ -80,7 +80,7 @@ impl TargetsWithFlags {
         alloc: Global,
         name: &String,
         added: &[&str],
-        flags: &FlagFacts,
+        flags: &RustflagsFacts,
     ) -> Result<(), AllocError> {
         self.targets.push(Target {
             name: name.clone()?,
@@ -105,34 +105,38 @@ impl TargetsWithFlags {
 fn flags_at_hand<R: Files + Input + Env + AllocGlobal>(
     rt: &R,
     matches: &ArgMatches<'_>,
-) -> Result<Option<SharedFlags>, QueryError> {
+) -> Result<Option<SharedRustflags>, QueryError> {
     if matches.get_flag("no-config") {
         return Ok(None);
     }
-    Ok(Some(SharedFlags::read(rt, limit_of(matches))?))
+    Ok(Some(SharedRustflags::read(rt, limit_of(matches))?))
 }
 
 /// Returns the facts that compiler flags set for a target, if flags count.
 fn facts_of_flags<R: Env + AllocGlobal>(
     rt: &R,
     matches: &ArgMatches<'_>,
-    shared: &Option<SharedFlags>,
+    shared: &Option<SharedRustflags>,
     name: &str,
     from: FactsFrom<'_>,
-) -> Result<FlagFacts, AllocError> {
+) -> Result<RustflagsFacts, AllocError> {
     let Some(shared) = shared else {
-        return Ok(FlagFacts::none(rt.alloc()));
+        return Ok(RustflagsFacts::none(rt.alloc()));
     };
-    let target = FlaggedTarget {
+    let target = RustflagsTarget {
         name,
         facts_from: from,
         added: matches.get_strs("cfg").unwrap_or(&[]),
     };
-    flag_facts(rt, shared, &target)
+    rustflags_facts(rt, shared, &target)
 }
 
 /// Returns the facts of `--cfg`, followed by those that flags set.
-fn added_by(alloc: Global, added: &[&str], flags: &FlagFacts) -> Result<Vec<String>, AllocError> {
+fn added_by(
+    alloc: Global,
+    added: &[&str],
+    flags: &RustflagsFacts,
+) -> Result<Vec<String>, AllocError> {
     let mut facts = Vec::new(alloc);
     for fact in added {
         facts.push(String::from_str(alloc, fact)?)?;

@@ -8,9 +8,9 @@ use Rattle.exact_answers.specs.declared.fact_constraints.FactConstraints.{FactCo
 use Rattle.manifests.specs.Declarations.{DeclaredEntry}
 use Rattle.predicate_classes.specs.declared.classes.Category.TheVariants as category
 use Rattle.predicate_classes.specs.Classes.{classified_by, classified_in, has_category}
-use Rattle.manifest_lints_findings.specs.declared.codes.Code.{Code}
-use Rattle.manifest_lints_findings.specs.declared.codes.Code.TheVariants as code
-use Rattle.manifest_lints_findings.specs.declared.known_keys.KnownKey.{KnownKey}
+use Rattle.manifest_lints_findings.specs.declared.codes.KeyLint.{KeyLint}
+use Rattle.manifest_lints_findings.specs.declared.codes.KeyLint.TheVariants as code
+use Rattle.manifest_lints_findings.specs.declared.known_keys.AnalysedKey.{AnalysedKey}
 use Rattle.manifest_lints_findings.specs.declared.readings.ReadKey.{ReadKey}
 use Rattle.manifest_lints_findings.specs.declared.readings.KeyMeaning.{KeyMeaning}
 use Rattle.manifest_lints_findings.specs.declared.readings.KeyMeaning.TheVariants as spelled
@@ -92,7 +92,7 @@ spells_nothing text (spelled.Condition p) h read = absurd (true≢false h)
 spells_nothing text (spelled.ByCargo m) h read = read
 spells_nothing text (spelled.Refused e) h read = read
 
-module _ (k : FactConstraints) (ds : List DeclaredEntry) (r : ReadKey) (key : KnownKey) (known : IsKnown ds r key) where
+module _ (k : FactConstraints) (ds : List DeclaredEntry) (r : ReadKey) (key : AnalysedKey) (known : IsKnown ds r key) where
   spelled_is : key.read.now.spelled ≡ r.spelled
   spelled_is = ap (λ z. z.spelled) known.read
 
@@ -112,7 +112,7 @@ module _ (k : FactConstraints) (ds : List DeclaredEntry) (r : ReadKey) (key : Kn
     found : CheckedKey
     found = record { key = key; answers = a }
 
-    of_spelled : (c : Code) → Holds k ds es (entry_read r) (condition_of p) a.is_open c (applicable_codes found c)
+    of_spelled : (c : KeyLint) → Holds k ds es (entry_read r) (condition_of p) a.is_open c (applicable_codes found c)
     unfolding found
     of_spelled code.Refused = ap is_refused (spelled_is ∙ is)
     of_spelled code.NoTable = tables_are
@@ -153,7 +153,7 @@ module _ (k : FactConstraints) (ds : List DeclaredEntry) (r : ReadKey) (key : Kn
     none_asked : classified_by key.predicates.items ≡ []
     none_asked = known.predicates ∙ ap (classified_of_spelled ds) is ∙ nothing_asked ds s none
 
-    of_unspelled : (c : Code) → HoldsUnspelled (is_refused s) (entry_read r) c (applicable_codes unspelled c)
+    of_unspelled : (c : KeyLint) → HoldsUnspelled (is_refused s) (entry_read r) c (applicable_codes unspelled c)
     unfolding unspelled
     of_unspelled code.Refused = ap is_refused (spelled_is ∙ is)
     of_unspelled code.NoTable = tables_are

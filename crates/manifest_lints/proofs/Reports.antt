@@ -10,9 +10,9 @@ use Rattle.std.proofs.lemmas.List.Elements.{filter-append, All-nil, All-push, Al
 use Rattle.std.proofs.Math.Bool.{cond}
 use Rattle.exact_answers.specs.declared.fact_constraints.FactConstraints.{FactConstraints}
 use Rattle.manifest_lints.specs.declared.earlier.Earlier.{Earlier}
-use Rattle.manifest_lints_findings.specs.declared.codes.Code.{Code}
+use Rattle.manifest_lints_findings.specs.declared.codes.KeyLint.{KeyLint}
 use Rattle.manifest_lints_findings.specs.declared.findings.Finding.{Finding}
-use Rattle.manifest_lints_findings.specs.declared.known_keys.KnownKey.{KnownKey}
+use Rattle.manifest_lints_findings.specs.declared.known_keys.AnalysedKey.{AnalysedKey}
 use Rattle.manifest_lints_findings.specs.declared.readings.ReadKey.{ReadKey}
 use Rattle.manifest_lints_findings.specs.Codes.{CodeSet, finding_level}
 use Rattle.manifest_lints_findings.specs.Marks.{Mark, mark}
@@ -69,7 +69,7 @@ module _ (reads : List ReadKey) (i : ℕ) (d : ReadKey) (within : i < length rea
       (is (omega arith) e ∙ ap (λ (x : Entry). x.0) (before_is n e before)) names
   names_by None f before is names = tt
 
-  pub one_more : (k : FactConstraints) (ds : List DeclaredEntry) (key : KnownKey) (codes : CodeSet) (earlier : Earlier)
+  pub one_more : (k : FactConstraints) (ds : List DeclaredEntry) (key : AnalysedKey) (codes : CodeSet) (earlier : Earlier)
       (is_open : Bool)
       (old new : List Finding) (before_open now_open : List ℕ)
       → AreFindingsOn k ds (map entry_read (take i reads)) old before_open
@@ -99,12 +99,12 @@ module _ (reads : List ReadKey) (i : ℕ) (d : ReadKey) (within : i < length rea
       (subst (λ ns. AreFindingsOn k ds (es ++ entry_read x ∷ []) (old ++ adds.added) ns)
       (ap (λ n. before_open ++ left_open n is_open) long ∙ sym opened) more))
 
-abbrev marked : ℕ → List Code → List Mark
+abbrev marked : ℕ → List KeyLint → List Mark
 marked n cs = map (λ c. (Some n, c)) cs
 
 -- ---- what adds findings
 
-pub adds_none : (other : List ℕ) (key : KnownKey) (fs : List Finding) → AddsFindings [] other key fs fs
+pub adds_none : (other : List ℕ) (key : AnalysedKey) (fs : List Finding) → AddsFindings [] other key fs fs
 adds_none other key fs = record {
   added = [];
   are = sym (append-nil fs);
@@ -113,7 +113,7 @@ adds_none other key fs = record {
   shown = All-nil (ShowsKey key);
 }
 
-adds_more : (ms ns : List Mark) (other : List ℕ) (key : KnownKey) (fs gs hs : List Finding)
+adds_more : (ms ns : List Mark) (other : List ℕ) (key : AnalysedKey) (fs gs hs : List Finding)
     → AddsFindings ms other key fs gs → AddsFindings ns other key gs hs → AddsFindings (ms ++ ns) other key fs hs
 adds_more ms ns other key fs gs hs a b = record {
   added = a.added ++ b.added;
@@ -123,8 +123,8 @@ adds_more ms ns other key fs gs hs a b = record {
   shown = All-append (ShowsKey key) a.added b.added a.shown b.shown;
 }
 
-module _ (p : Code → Bool) (n : ℕ) (cs : List Code) (i : ℕ) (d : Code) (within : i < length cs) where
-  at_next : (xs : List Code) → filter p (get_or cs i d ∷ []) ≡ xs
+module _ (p : KeyLint → Bool) (n : ℕ) (cs : List KeyLint) (i : ℕ) (d : KeyLint) (within : i < length cs) where
+  at_next : (xs : List KeyLint) → filter p (get_or cs i d ∷ []) ≡ xs
       → marked n (filter p (take i cs)) ++ marked n xs ≡ marked n (filter p (take (i + 1) cs))
   at_next xs is =
       sym (map-append (λ c. (Some n, c)) (filter p (take i cs)) xs)
@@ -143,7 +143,7 @@ module _ (p : Code → Bool) (n : ℕ) (cs : List Code) (i : ℕ) (d : Code) (wi
         | false ↦ λ e. at_next [] (ap (λ b. cond b (x ∷ []) []) e)
       ] refl
 
-  pub one_code : (other : List ℕ) (key : KnownKey) (init old new : List Finding)
+  pub one_code : (other : List ℕ) (key : AnalysedKey) (init old new : List Finding)
       → AddsFindings (marked n (filter p (take i cs))) other key init old
       → AddsFindings (cond (p (get_or cs i d)) ((Some n, get_or cs i d) ∷ []) []) other key old new
       → AddsFindings (marked n (filter p (take (i + 1) cs))) other key init new
@@ -153,13 +153,13 @@ module _ (p : Code → Bool) (n : ℕ) (cs : List Code) (i : ℕ) (d : Code) (wi
       key init old new before now)
 
 -- all codes were gone through
-pub all_codes : (p : Code → Bool) (n i : ℕ) (cs : List Code) (other : List ℕ) (key : KnownKey) (init new : List Finding)
+pub all_codes : (p : KeyLint → Bool) (n i : ℕ) (cs : List KeyLint) (other : List ℕ) (key : AnalysedKey) (init new : List Finding)
     → length cs ≤ i → AddsFindings (marked n (filter p (take i cs))) other key init new
     → AddsFindings (marked n (filter p cs)) other key init new
 all_codes p n i cs other key init new done =
     subst (λ xs. AddsFindings (marked n (filter p xs)) other key init new) (take_all i cs done)
 
-pub one_told : (fs gs : List Finding) (f : Finding) (b : Bool) (m : Mark) (other : List ℕ) (key : KnownKey)
+pub one_told : (fs gs : List Finding) (f : Finding) (b : Bool) (m : Mark) (other : List ℕ) (key : AnalysedKey)
     → gs ≡ fs ++ f ∷ []
     → mark f ≡ m → b ≡ true → Names m.1 other f
     → f.level ≡ finding_level m.1 (length key.predicates.items)
@@ -190,7 +190,7 @@ one_told fs gs f b m other key pushed is told names level shows notes helps show
       }));
 }
 
-pub none_told : (fs : List Finding) (b : Bool) (m : Mark) (other : List ℕ) (key : KnownKey) → b ≡ false
+pub none_told : (fs : List Finding) (b : Bool) (m : Mark) (other : List ℕ) (key : AnalysedKey) → b ≡ false
     → AddsFindings (cond b (m ∷ []) []) other key fs fs
 none_told fs b m other key hidden =
     subst (λ ms. AddsFindings ms other key fs fs) (sym (ap (λ c. cond c (m ∷ []) []) hidden)) (adds_none other key fs)

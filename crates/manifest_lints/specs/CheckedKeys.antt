@@ -4,7 +4,7 @@ use Rattle.cargo_platform.specs.Trees.{Condition}
 use Rattle.exact_answers.specs.declared.fact_constraints.FactConstraints.{FactConstraints}
 use Rattle.manifests.specs.Declarations.{DeclaredEntry}
 use Rattle.predicate_classes.specs.Classes.{classified_in, open_in}
-use Rattle.manifest_lints_findings.specs.declared.codes.Code.TheVariants as code
+use Rattle.manifest_lints_findings.specs.declared.codes.KeyLint.TheVariants as code
 use Rattle.manifest_lints_findings.specs.Codes.{CodeSet}
 use Rattle.manifest_lints_findings.specs.Known.{holds_alone}
 use Rattle.manifest_lints.specs.declared.at_targets.TheConstants.{MAX_OPEN_NAMES}

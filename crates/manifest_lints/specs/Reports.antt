@@ -16,12 +16,12 @@ use Rattle.manifests.specs.Declarations.{DeclaredEntry, IsDeclaredBy}
 pub use Rattle.manifests.specs.Entries.{Entry, entry_of}
 use Rattle.predicate_classes.specs.declared.classes.Category.TheVariants as category
 use Rattle.predicate_classes.specs.Classes.{has_category, classified_in, open_in, IsUnknownTarget}
-use Rattle.manifest_lints_findings.specs.declared.codes.Code.{Code}
-use Rattle.manifest_lints_findings.specs.declared.codes.Code.TheVariants as code
+use Rattle.manifest_lints_findings.specs.declared.codes.KeyLint.{KeyLint}
+use Rattle.manifest_lints_findings.specs.declared.codes.KeyLint.TheVariants as code
 use Rattle.manifest_lints_findings.specs.declared.findings.Finding.{Finding}
 use Rattle.manifest_lints_findings.specs.declared.findings.Report.{Report}
 use Rattle.manifest_lints_findings.specs.Codes.{CodeSet, finding_level, is_reported, reported_codes}
-use Rattle.manifest_lints_findings.specs.declared.known_keys.KnownKey.{KnownKey}
+use Rattle.manifest_lints_findings.specs.declared.known_keys.AnalysedKey.{AnalysedKey}
 use Rattle.manifest_lints_findings.specs.declared.readings.ReadKey.{ReadKey}
 use Rattle.manifest_lints_findings.specs.Known.{has_marked_literal, IsKnown}
 use Rattle.manifest_lints_findings.specs.Marks.{Mark, marks}
@@ -80,7 +80,7 @@ pub data MayBeOpen (k : FactConstraints) (ds : List DeclaredEntry) (es : List En
 
 -- whether a lint applies to a key after others that is a condition, about which something is left open or not, given
 -- the knowledge about each target and the declarations
-abbrev pub Holds : FactConstraints → List DeclaredEntry → List Entry → Entry → Condition → Bool → Code → Bool → Type 0
+abbrev pub Holds : FactConstraints → List DeclaredEntry → List Entry → Entry → Condition → Bool → KeyLint → Bool → Type 0
 Holds k ds es e c is_open code.Refused b = b ≡ false
 Holds k ds es e c is_open code.NoTable b = b ≡ is_no_table e.1
 Holds k ds es e c is_open code.ReadOtherwise b = b ≡ has_marked_literal (classified_in ds c)
@@ -97,7 +97,7 @@ Holds k ds es e c is_open code.Custom b = b ≡ has_category category.Custom (cl
 Holds k ds es e c is_open code.NotCanonical b = b ≡ not (bytes_eq (print_condition c) e.0)
 
 -- the same for a key that is not a condition, and that Cargo rejects or accepts
-abbrev pub HoldsUnspelled : Bool → Entry → Code → Bool → Type 0
+abbrev pub HoldsUnspelled : Bool → Entry → KeyLint → Bool → Type 0
 HoldsUnspelled is_refused e code.Refused b = b ≡ is_refused
 HoldsUnspelled is_refused e code.NoTable b = b ≡ is_no_table e.1
 HoldsUnspelled is_refused e code.ReadOtherwise b = b ≡ not is_refused
@@ -109,7 +109,7 @@ pub record IsFoundSpelled (k : FactConstraints) (ds : List DeclaredEntry) (es : 
     (codes : CodeSet) (earlier : Earlier) (is_open : Bool) : Type 0 where
   pub condition : Condition
   pub spelled : IsConditionText e.0 condition
-  pub holds : (c : Code) → Holds k ds es e condition is_open c (codes c)
+  pub holds : (c : KeyLint) → Holds k ds es e condition is_open c (codes c)
   pub named : NamesRightly k es condition earlier
   pub none_missed : codes code.Equivalent ≡ false → is_open ≡ false → MissesNone k es ns condition
   pub left_open : IsTrue is_open → MayBeOpen k ds es e.0 condition
@@ -118,7 +118,7 @@ pub record IsFoundSpelled (k : FactConstraints) (ds : List DeclaredEntry) (es : 
 pub record IsFoundUnspelled (e : Entry) (codes : CodeSet) (earlier : Earlier) (is_open : Bool) : Type 0 where
   pub nothing : SpellsNothing e.0
   pub is_refused : Bool
-  pub holds : (c : Code) → HoldsUnspelled is_refused e c (codes c)
+  pub holds : (c : KeyLint) → HoldsUnspelled is_refused e c (codes c)
   pub unlike : earlier ≡ Unlike
   pub settled : is_open ≡ false
 
@@ -129,7 +129,7 @@ IsFound k ds es ns e codes earlier is_open =
 -- ---- the diagnostics
 
 -- the diagnostic of a lint on the key at an index, if it is reported
-abbrev pub told_mark : ℕ → CodeSet → Code → List Mark
+abbrev pub told_mark : ℕ → CodeSet → KeyLint → List Mark
 told_mark n codes c = cond (is_reported codes c) ((Some n, c) ∷ []) []
 
 -- the diagnostics on the key at an index
@@ -145,7 +145,7 @@ abbrev pub NamesEarlier : List Entry → Earlier → Finding → Type 0
 NamesEarlier es earlier f = IfSome (named_place earlier) (λ n. (d : Entry) → Names f.code (get_or es n d).0 f)
 
 -- the properties of a key by itself, given the declarations
-pub record IsKnownOf (ds : List DeclaredEntry) (e : Entry) (key : KnownKey) : Type 0 where
+pub record IsKnownOf (ds : List DeclaredEntry) (e : Entry) (key : AnalysedKey) : Type 0 where
   pub read : ReadKey
   pub entry : entry_read read ≡ e
   pub spells : IsRead read
@@ -155,7 +155,7 @@ pub record IsKnownOf (ds : List DeclaredEntry) (e : Entry) (key : KnownKey) : Ty
 -- notes have Cargo's warnings, and its helps the suggestion; it has the position of the key's error if the key is
 -- rejected, and else points to the names, pairs and fields that the lint is about; and it has a suggestion only if the
 -- lint reports nothing on that
-pub record IsDiagnosticOn (c : Code) (key : KnownKey) (f : Finding) : Type 0 where
+pub record IsDiagnosticOn (c : KeyLint) (key : AnalysedKey) (f : Finding) : Type 0 where
   pub level : f.level ≡ finding_level c (length key.predicates.items)
   pub message : Shows c key (string_bytes f.message)
   pub notes : Mentions (noted_texts c key) (said f.children.notes.items)
@@ -164,7 +164,7 @@ pub record IsDiagnosticOn (c : Code) (key : KnownKey) (f : Finding) : Type 0 whe
   pub pointed : PointsTo c key f.pointed
   pub suggestion : IfSome f.suggestion (λ s. IsMended c (string_bytes s))
 
-abbrev pub ShowsKey : KnownKey → Finding → Type 0
+abbrev pub ShowsKey : AnalysedKey → Finding → Type 0
 ShowsKey key f = IsDiagnosticOn f.code key f
 
 -- the diagnostics on a key after others are those that are reported on it; they name that key, and show its properties
@@ -172,7 +172,7 @@ pub record AreTold (ds : List DeclaredEntry) (es : List Entry) (e : Entry) (code
     (fs : List Finding) : Type 0 where
   pub marks_are : marks fs ≡ told_marks (length es) codes
   pub named : All (NamesEarlier es earlier) fs
-  pub key : KnownKey
+  pub key : AnalysedKey
   pub known : IsKnownOf ds e key
   pub shown : All (ShowsKey key) fs
 
@@ -191,7 +191,7 @@ AreFindings ds es fs ns = (k : FactConstraints) × (AllowsRustcs k × AreFinding
 
 -- the old diagnostics are followed by those with these marks, which name this other key, and show the properties of the
 -- key
-pub record AddsFindings (ms : List Mark) (other : List ℕ) (key : KnownKey) (old new : List Finding) : Type 0 where
+pub record AddsFindings (ms : List Mark) (other : List ℕ) (key : AnalysedKey) (old new : List Finding) : Type 0 where
   pub added : List Finding
   pub are : new ≡ old ++ added
   pub marks_are : marks added ≡ ms

@@ -26,10 +26,10 @@ use crate::deciding::{budget_for, either, may_search, never_and_always};
 use crate::earlier::{Earlier, Keys};
 use cargo_platform::Platform;
 use exact_answers::FactConstraints;
-use manifest_lints_findings::Code;
-use manifest_lints_findings::known_keys::KnownKey;
+use manifest_lints_findings::KeyLint;
+use manifest_lints_findings::known_keys::AnalysedKey;
 use manifest_lints_findings::readings::{KeyMeaning, ReadKey};
-use manifests::Declared;
+use manifests::ExpectedCfgs;
 use predicate_classes::key_predicates::open_names;
 use std::alloc::{AllocError, Global};
 
@@ -37,7 +37,7 @@ use std::alloc::{AllocError, Global};
 #[derive(Drop)]
 pub struct LintContext<'a> {
     /// The declarations of the manifest.
-    pub declared: &'a Declared<'a>,
+    pub declared: &'a ExpectedCfgs<'a>,
     /// The knowledge of the facts of each target.
     pub known: &'a FactConstraints<'a>,
     /// Whether the keys so far are too many and too long to be compared.
@@ -65,30 +65,30 @@ pub struct Answers {
 #[derive(Drop)]
 pub struct CheckedKey<'a> {
     /// The properties of the key by itself.
-    pub key: KnownKey<'a>,
+    pub key: AnalysedKey<'a>,
     /// The answers about the key.
     pub answers: Answers,
 }
 
 impl<'a> CheckedKey<'a> {
     /// Returns whether a lint applies to the key.
-    pub fn holds(&self, code: Code) -> bool
+    pub fn holds(&self, code: KeyLint) -> bool
         ensures { result ≡ applicable_codes self.now code }
     {
         match code {
-            Code::Never => self.answers.never,
-            Code::Nowhere => self.answers.nowhere,
-            Code::Same => self.answers.earlier.is_same(),
-            Code::Equivalent => self.answers.earlier.is_equivalent(),
-            Code::Always => self.answers.always,
-            Code::Everywhere => self.answers.everywhere,
+            KeyLint::Never => self.answers.never,
+            KeyLint::Nowhere => self.answers.nowhere,
+            KeyLint::Same => self.answers.earlier.is_same(),
+            KeyLint::Equivalent => self.answers.earlier.is_equivalent(),
+            KeyLint::Always => self.answers.always,
+            KeyLint::Everywhere => self.answers.everywhere,
             _ => self.key.holds(code),
         }
     }
 
     /// Returns whether a diagnostic of this lint is reported: the lint applies, and no other lint that applies hides
     /// it. A lint that is hidden for one name only is reported for the other names, and so is not hidden here.
-    pub fn is_reported(&self, code: Code) -> bool
+    pub fn is_reported(&self, code: KeyLint) -> bool
         ensures { result ≡ is_reported (applicable_codes self.now) code }
     {
         if !self.holds(code) {
@@ -107,7 +107,7 @@ impl<'a> CheckedKey<'a> {
 fn answers_alone<'a>(
     alloc: Global,
     context: &LintContext<'a>,
-    key: &KnownKey<'a>,
+    key: &AnalysedKey<'a>,
     condition: &'a Platform,
 ) -> Result<Answers, AllocError>
     ensures alone { (IsKnown (declarations_of context.now.declared.now) key.now.read.now key.now)
@@ -153,7 +153,7 @@ fn are_many(open: &[&str]) -> bool
 }
 
 /// Returns the maximum number of case splits for comparing a key with another one, or `None` if they are not compared.
-fn budget_beside(key: &KnownKey<'_>, decides: bool, is_too_much: bool) -> Option<u64>
+fn budget_beside(key: &AnalysedKey<'_>, decides: bool, is_too_much: bool) -> Option<u64>
     ensures { MatchOption result
         ((decides ≡ true) ⊎ (IsTrue is_too_much ⊎ IsNestedBeyond key.now.read.now.text.now MAX_NESTING))
         (λ splits. splits ≡ budget_of (length key.now.predicates.items)) }
@@ -181,7 +181,7 @@ fn stays_open(earlier: Earlier, decides: bool) -> bool
 fn answers_of<'a>(
     alloc: Global,
     context: &LintContext<'a>,
-    key: &KnownKey<'a>,
+    key: &AnalysedKey<'a>,
     condition: &'a Platform,
     before: &mut Keys<'a>,
 ) -> Result<Answers, AllocError>
@@ -247,7 +247,7 @@ pub fn check_key<'a>(
         × AreCovered context.now.known.now (es ++ entry_read read.now ∷ []) (ns ++ left_open place f.answers.is_open)
         before.new)) }
 {
-    let key = KnownKey::of(alloc, read, place, context.declared)?;
+    let key = AnalysedKey::of(alloc, read, place, context.declared)?;
     match &read.spelled {
         KeyMeaning::Condition(condition) => {
             let answers = answers_of(alloc, context, &key, condition, before)?;

@@ -14,6 +14,6 @@ pub use cargo_platform::values_of;
 pub use linting::lint;
 pub use manifest_lints_findings::readings::{KeyMeaning, ReadKey};
 pub use manifest_lints_findings::{
-    Code, Finding, KnownFacts, Level, Report, lint_condition, nearest_target,
+    Finding, KeyLint, KnownFacts, Level, Report, lint_condition, nearest_target,
 };
 pub use manifests::document::Document;

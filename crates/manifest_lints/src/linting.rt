@@ -18,9 +18,9 @@ use exact_answers::{FactConstraints, ONE_VALUED, family_rule};
 use manifest_lints_findings::findings::target_is_no_table;
 use manifest_lints_findings::making::finding_on;
 use manifest_lints_findings::readings::ReadKey;
-use manifest_lints_findings::{CODES, Code, Finding, KnownFacts, Report};
+use manifest_lints_findings::{Finding, KEY_LINTS, KeyLint, KnownFacts, Report};
 use manifests::document::Document;
-use manifests::{Declared, TargetKey, Targets};
+use manifests::{ExpectedCfgs, TargetKey, Targets};
 use std::alloc::{AllocError, Global};
 
 /// Returns the earlier key that is the same or equivalent, or the empty text if there is none.
@@ -51,7 +51,7 @@ fn add_finding(
     known_facts: &KnownFacts,
     checked: &CheckedKey<'_>,
     other: &str,
-    code: Code,
+    code: KeyLint,
     findings: &mut Vec<Finding>,
 ) -> Result<(), AllocError>
     ensures { OnOk result (AddsFindings (told_mark checked.now.key.place (applicable_codes checked.now) code) other.now
@@ -76,7 +76,7 @@ fn add_findings(
     ensures { OnOk result (AddsFindings (told_marks checked.now.key.place (applicable_codes checked.now)) other.now
         checked.now.key findings.old.items findings.new.items) }
 {
-    'codes: for code in CODES {
+    'codes: for code in KEY_LINTS {
         add_finding(alloc, known_facts, checked, other, code, findings)?;
     }
     Ok(())
@@ -162,7 +162,7 @@ fn report_on<'a>(
         single: ONE_VALUED,
         assumed: &rule,
     };
-    let declared = Declared::of(alloc, manifest)?;
+    let declared = ExpectedCfgs::of(alloc, manifest)?;
     let context = LintContext {
         declared: &declared,
         known: &known,

@@ -1,9 +1,9 @@
 -- The lints: their names, their levels, and which of them hide which.
 use Rattle.std.specs.Prelude.{ℕ, Bool, not, ◌&&◌, ◌==◌, cond, codes, List, [], ◌∷◌}
 use Rattle.std.specs.List.{list_any, filter}
-use Rattle.manifest_lints_findings.specs.declared.codes.Code.{Code}
-use Rattle.manifest_lints_findings.specs.declared.codes.Code.TheVariants as code
-use Rattle.manifest_lints_findings.specs.declared.codes.TheConstants.{CODES}
+use Rattle.manifest_lints_findings.specs.declared.codes.KeyLint.{KeyLint}
+use Rattle.manifest_lints_findings.specs.declared.codes.KeyLint.TheVariants as code
+use Rattle.manifest_lints_findings.specs.declared.codes.TheConstants.{KEY_LINTS}
 use Rattle.manifest_lints_findings.specs.declared.codes.Level.{Level}
 use Rattle.manifest_lints_findings.specs.declared.codes.Level.TheVariants as level
 use Rattle.manifest_lints_findings.specs.declared.lints.Lint.{Lint}
@@ -11,10 +11,10 @@ use Rattle.manifest_lints_findings.specs.declared.lints.Lint.TheVariants as lint
 
 -- a set of lints, such as those that apply to a key
 abbrev pub CodeSet : Type 0
-CodeSet = Code → Bool
+CodeSet = KeyLint → Bool
 
 -- the name of each
-abbrev pub code_word : Code → List ℕ
+abbrev pub code_word : KeyLint → List ℕ
 code_word code.Refused = codes "refused"
 code_word code.NoTable = codes "no-table"
 code_word code.ReadOtherwise = codes "read-otherwise"
@@ -46,7 +46,7 @@ level_word level.Warning = codes "warning"
 level_word level.Note = codes "note"
 
 -- the level of each
-abbrev pub code_level : Code → Level
+abbrev pub code_level : KeyLint → Level
 code_level code.Refused = level.Error
 code_level code.NoTable = level.Error
 code_level code.ReadOtherwise = level.Warning
@@ -63,13 +63,13 @@ code_level code.Custom = level.Note
 code_level code.NotCanonical = level.Note
 
 -- the level on a condition with so many names and pairs
-abbrev pub finding_level : Code → ℕ → Level
+abbrev pub finding_level : KeyLint → ℕ → Level
 finding_level code.Never count = cond (count == 0) level.Note level.Warning
 finding_level code.Always count = cond (count == 0) level.Note level.Warning
 finding_level c count = code_level c
 
 -- the lints that hide it on the same key, whatever names they report
-abbrev pub hiders : Code → List Code
+abbrev pub hiders : KeyLint → List KeyLint
 hiders code.Nowhere = code.UnknownTarget ∷ code.UnknownFact ∷ code.Never ∷ []
 hiders code.Equivalent = code.Never ∷ code.Always ∷ code.Same ∷ []
 hiders code.Everywhere = code.Always ∷ []
@@ -77,9 +77,9 @@ hiders code.NotCanonical = code.ReadOtherwise ∷ code.UnknownTarget ∷ code.Un
 hiders _ = []
 
 -- true if a lint is reported: it applies, and no other lint hides it
-abbrev pub is_reported : CodeSet → Code → Bool
+abbrev pub is_reported : CodeSet → KeyLint → Bool
 is_reported holds c = holds c && not (list_any holds (hiders c))
 
 -- the lints that are reported on a key, in their order
-abbrev pub reported_codes : CodeSet → List Code
-reported_codes holds = filter (is_reported holds) CODES
+abbrev pub reported_codes : CodeSet → List KeyLint
+reported_codes holds = filter (is_reported holds) KEY_LINTS

@@ -10,8 +10,8 @@ use Rattle.predicate_classes.specs.Classes.{Classified, classified_by, classifie
 use Rattle.manifest_lints_findings.specs.NoTables.{is_no_table, is_empty_list}
 use Rattle.manifest_lints_findings.specs.Codes.{CodeSet}
 use Rattle.manifest_lints_findings.specs.Spells.{entry_read}
-use Rattle.manifest_lints_findings.specs.declared.codes.Code.TheVariants as code
-use Rattle.manifest_lints_findings.specs.declared.known_keys.KnownKey.{KnownKey}
+use Rattle.manifest_lints_findings.specs.declared.codes.KeyLint.TheVariants as code
+use Rattle.manifest_lints_findings.specs.declared.known_keys.AnalysedKey.{AnalysedKey}
 use Rattle.manifest_lints_findings.specs.declared.readings.ReadKey.{ReadKey}
 use Rattle.manifest_lints_findings.specs.declared.readings.KeyMeaning.{KeyMeaning}
 use Rattle.manifest_lints_findings.specs.declared.readings.KeyMeaning.TheVariants as spelled
@@ -55,7 +55,7 @@ IsUnknownSpelled (spelled.Condition p) = IsUnknownTarget (condition_of p)
 IsUnknownSpelled (spelled.ByCargo m) = ⊥
 IsUnknownSpelled (spelled.Refused e) = ⊥
 
-pub record IsKnown (ds : List DeclaredEntry) (r : ReadKey) (k : KnownKey) : Type 0 where
+pub record IsKnown (ds : List DeclaredEntry) (r : ReadKey) (k : AnalysedKey) : Type 0 where
   pub read : k.read.now ≡ r
   pub tables : is_empty_list k.no_tables.items ≡ not (is_no_table (entry_read r).1)
   pub predicates : classified_by k.predicates.items ≡ classified_of_spelled ds r.spelled
@@ -63,7 +63,7 @@ pub record IsKnown (ds : List DeclaredEntry) (r : ReadKey) (k : KnownKey) : Type
   pub unknown_target : IsTrue k.is_unknown_target ↔ IsUnknownSpelled r.spelled
 
 -- the lints that apply to a key by itself
-abbrev pub holds_alone : KnownKey → CodeSet
+abbrev pub holds_alone : AnalysedKey → CodeSet
 holds_alone k code.Refused = is_refused k.read.now.spelled
 holds_alone k code.NoTable = not (is_empty_list k.no_tables.items)
 holds_alone k code.ReadOtherwise = is_by_cargo k.read.now.spelled || has_marked_literal (classified_by k.predicates.items)

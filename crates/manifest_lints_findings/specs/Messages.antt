@@ -14,9 +14,9 @@ use Rattle.manifest_lints_findings.specs.Chosen.{chosen, fact_text, warnings_on}
 use Rattle.manifest_lints_findings.specs.Texts.{shown_whole, quoted_text, Mentions, and_more}
 use Rattle.manifest_lints_findings.specs.Texts.{joined_first, both_texts}
 use Rattle.manifest_lints_findings.specs.declared.chosen.Choice.TheVariants as choice
-use Rattle.manifest_lints_findings.specs.declared.codes.Code.{Code}
-use Rattle.manifest_lints_findings.specs.declared.codes.Code.TheVariants as code
-use Rattle.manifest_lints_findings.specs.declared.known_keys.KnownKey.{KnownKey}
+use Rattle.manifest_lints_findings.specs.declared.codes.KeyLint.{KeyLint}
+use Rattle.manifest_lints_findings.specs.declared.codes.KeyLint.TheVariants as code
+use Rattle.manifest_lints_findings.specs.declared.known_keys.AnalysedKey.{AnalysedKey}
 use Rattle.manifest_lints_findings.specs.declared.readings.CargoReading.{CargoReading}
 use Rattle.manifest_lints_findings.specs.declared.readings.KeyMeaning.{KeyMeaning}
 use Rattle.manifest_lints_findings.specs.declared.readings.KeyMeaning.TheVariants as spelled
@@ -97,13 +97,13 @@ meant_shown None = []
 -- ---- the message
 
 -- the message about a key that is the same or equivalent, which ends with the earlier key
-abbrev pub NamesKey : Code → List ℕ → List ℕ → Type 0
+abbrev pub NamesKey : KeyLint → List ℕ → List ℕ → Type 0
 NamesKey code.Same key message = message ≡ codes "the same condition as the earlier key " ++ quoted_text key
 NamesKey code.Equivalent key message = message ≡ codes "equivalent to the earlier key " ++ quoted_text key
 NamesKey _ key message = Unit {0}
 
 -- the message about any other key
-abbrev pub Shows : Code → KnownKey → List ℕ → Type 0
+abbrev pub Shows : KeyLint → AnalysedKey → List ℕ → Type 0
 Shows code.Refused k message =
     (reason : List ℕ) × (message ≡ codes "invalid key: " ++ reason)
     × IsFaultText k.read.now.text.now k.read.now.spelled reason
@@ -131,12 +131,12 @@ abbrev pub said : List (String Global) → List ℕ
 said ts = flat_map (λ t. string_bytes t) ts
 
 -- the texts in the notes: Cargo's warnings
-abbrev pub noted_texts : Code → KnownKey → List (List ℕ)
+abbrev pub noted_texts : KeyLint → AnalysedKey → List (List ℕ)
 noted_texts code.ReadOtherwise k = cargo_noted k.read.now.spelled
 noted_texts code.Unsupported k = unsupported_in (chosen (choice.OfCategory category.Unsupported) k.predicates.items) ∷ []
 noted_texts _ k = []
 
 -- the texts in the helps: the canonical form of a key that is not in it, and else what can replace the key
-abbrev pub help_texts : Code → KnownKey → Option (String Global) → List (List ℕ)
+abbrev pub help_texts : KeyLint → AnalysedKey → Option (String Global) → List (List ℕ)
 help_texts code.NotCanonical k meant = quoted_text (string_bytes k.canonical) ∷ []
 help_texts c k meant = meant_shown meant

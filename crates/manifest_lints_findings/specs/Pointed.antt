@@ -13,16 +13,16 @@ use Rattle.manifest_lints_findings.specs.NoTables.{no_table_names}
 use Rattle.manifest_lints_findings.specs.Spells.{data_at}
 use Rattle.manifest_lints_findings.specs.declared.chosen.Choice.{Choice}
 use Rattle.manifest_lints_findings.specs.declared.chosen.Choice.TheVariants as choice
-use Rattle.manifest_lints_findings.specs.declared.codes.Code.{Code}
-use Rattle.manifest_lints_findings.specs.declared.codes.Code.TheVariants as code
+use Rattle.manifest_lints_findings.specs.declared.codes.KeyLint.{KeyLint}
+use Rattle.manifest_lints_findings.specs.declared.codes.KeyLint.TheVariants as code
 use Rattle.manifest_lints_findings.specs.declared.codes.Level.TheVariants as level
 use Rattle.manifest_lints_findings.specs.declared.findings.Finding.{Finding}
-use Rattle.manifest_lints_findings.specs.declared.known_keys.KnownKey.{KnownKey}
+use Rattle.manifest_lints_findings.specs.declared.known_keys.AnalysedKey.{AnalysedKey}
 use Rattle.manifest_lints_findings.specs.declared.pointing.SecondarySpans.{SecondarySpans}
 use Rattle.manifest_lints_findings.specs.declared.wording.TheConstants.{MOST_SHOWN}
 
 -- the names and pairs that a diagnostic of this lint is about
-abbrev pub choice_of : Code → Option Choice
+abbrev pub choice_of : KeyLint → Option Choice
 choice_of code.UnknownFact = Some (choice.OfCategory category.Mistaken)
 choice_of code.Unsupported = Some (choice.OfCategory category.Unsupported)
 choice_of code.Custom = Some (choice.OfCategory category.Custom)
@@ -39,17 +39,17 @@ spans_of None fs = []
 spans_of (Some c) fs = take MOST_SHOWN (spans_in (chosen c fs))
 
 -- the names of the fields that a diagnostic of this lint is about
-abbrev pub fields_of : Code → Data → List (List ℕ)
+abbrev pub fields_of : KeyLint → Data → List (List ℕ)
 fields_of code.NoTable value = no_table_names value
 fields_of _ value = []
 
 -- the diagnostic points to these names and pairs, and to these fields
-pub record PointsTo (c : Code) (key : KnownKey) (found : SecondarySpans) : Type 0 where
+pub record PointsTo (c : KeyLint) (key : AnalysedKey) (found : SecondarySpans) : Type 0 where
   pub facts : found.facts.items ≡ spans_of (choice_of c) key.predicates.items
   pub fields : map (λ s. string_bytes s) found.fields.items ≡ fields_of c (data_at key.read.now.value)
 
 -- a diagnostic that compares two keys points to the earlier one, and any other to none
-abbrev pub PointsToKey : Code → List ℕ → Option (String Global) → Type 0
+abbrev pub PointsToKey : KeyLint → List ℕ → Option (String Global) → Type 0
 PointsToKey code.Same key found = option_map (λ s. string_bytes s) found ≡ Some key
 PointsToKey code.Equivalent key found = option_map (λ s. string_bytes s) found ≡ Some key
 PointsToKey _ key found = found ≡ None
@@ -69,6 +69,6 @@ pub record IsOnTarget (f : Finding) : Type 0 where
   pub pointed : PointsToNothing f.pointed
 
 -- and its message names that key
-pub record Names (c : Code) (key : List ℕ) (f : Finding) : Type 0 where
+pub record Names (c : KeyLint) (key : List ℕ) (f : Finding) : Type 0 where
   pub message : NamesKey c key (string_bytes f.message)
   pub earlier : PointsToKey c key f.pointed.earlier

@@ -9,10 +9,10 @@ use Rattle.cargo_platform.specs.Print.{print_condition}
 use Rattle.predicate_classes.specs.declared.classes.Category.TheVariants as category
 use Rattle.predicate_classes.specs.Classes.{has_category, classified_in, IsUnknownTarget}
 use Rattle.manifest_lints_findings.specs.Known.{has_marked_literal}
-use Rattle.manifest_lints_findings.specs.declared.codes.Code.{Code}
-use Rattle.manifest_lints_findings.specs.declared.codes.Code.TheVariants as code
+use Rattle.manifest_lints_findings.specs.declared.codes.KeyLint.{KeyLint}
+use Rattle.manifest_lints_findings.specs.declared.codes.KeyLint.TheVariants as code
 use Rattle.manifest_lints_findings.specs.declared.findings.Finding.{Finding}
-use Rattle.manifest_lints_findings.specs.declared.known_keys.KnownKey.{KnownKey}
+use Rattle.manifest_lints_findings.specs.declared.known_keys.AnalysedKey.{AnalysedKey}
 use Rattle.manifest_lints_findings.specs.declared.readings.KeyMeaning.{KeyMeaning}
 use Rattle.manifest_lints_findings.specs.declared.readings.KeyMeaning.TheVariants as spelled
 
@@ -24,12 +24,12 @@ IsShownBy key (spelled.Refused e) f =
 IsShownBy key (spelled.Condition p) f = (f.span ≡ None) × (f.snippet ≡ None)
 IsShownBy key (spelled.ByCargo m) f = (f.span ≡ None) × (f.snippet ≡ None)
 
-abbrev pub IsShownOn : Code → KnownKey → Finding → Type 0
+abbrev pub IsShownOn : KeyLint → AnalysedKey → Finding → Type 0
 IsShownOn code.Refused k f = IsShownBy k.read.now.text.now k.read.now.spelled f
 IsShownOn c k f = (f.span ≡ None) × (f.snippet ≡ None)
 
 -- the lint reports nothing on this text, which is the condition; a text that is a condition is not rejected
-abbrev pub IsRidOf : Code → List ℕ → Condition → Type 0
+abbrev pub IsRidOf : KeyLint → List ℕ → Condition → Type 0
 IsRidOf code.Refused text c = Unit {0}
 IsRidOf code.UnknownTarget text c = IsUnknownTarget c → ⊥
 IsRidOf code.UnknownFact text c = has_category category.Mistaken (classified_in [] c) ≡ false
@@ -38,5 +38,5 @@ IsRidOf code.NotCanonical text c = IsTrue (bytes_eq (print_condition c) text)
 IsRidOf _ text c = ⊥
 
 -- the text is a condition on which the lint reports nothing
-abbrev pub IsMended : Code → List ℕ → Type 0
+abbrev pub IsMended : KeyLint → List ℕ → Type 0
 IsMended code text = (c : Condition) × IsConditionText text c × IsRidOf code text c

@@ -4,11 +4,11 @@ use Rattle.cargo_platform.specs.Trees.{Condition}
 use Rattle.predicate_classes.specs.declared.classes.Category.TheVariants as category
 use Rattle.predicate_classes.specs.Classes.{has_category, classified_in, IsUnknownTarget}
 use Rattle.manifest_lints_findings.specs.Marks.{Mark}
-use Rattle.manifest_lints_findings.specs.declared.codes.Code.{Code}
-use Rattle.manifest_lints_findings.specs.declared.codes.Code.TheVariants as code
+use Rattle.manifest_lints_findings.specs.declared.codes.KeyLint.{KeyLint}
+use Rattle.manifest_lints_findings.specs.declared.codes.KeyLint.TheVariants as code
 
 -- the diagnostic of a lint on the key at an index, if it is reported
-abbrev pub mark_where : ℕ → Bool → Code → List Mark
+abbrev pub mark_where : ℕ → Bool → KeyLint → List Mark
 mark_where n is_reported c = cond is_reported ((Some n, c) ∷ []) []
 
 -- they report the name of a target that is not known, what is taken for a fact of rustc's, and what only `--cfg` sets

@@ -14,9 +14,9 @@ pub enum Level {
     Note,
 }
 
-/// The lint that a diagnostic reports.
+/// A lint on a key of `target`.
 #[derive(Clone, Copy, Debug, PartialEq, Eq, PartialOrd, Ord, Drop)]
-pub enum Code {
+pub enum KeyLint {
     /// The key is not a condition.
     Refused,
     /// A value is not a table.
@@ -48,21 +48,21 @@ pub enum Code {
 }
 
 /// The lints in the order in which they are reported for one key.
-pub const CODES: [Code; 14] = [
-    Code::Refused,
-    Code::NoTable,
-    Code::ReadOtherwise,
-    Code::Unsupported,
-    Code::Never,
-    Code::UnknownTarget,
-    Code::UnknownFact,
-    Code::Nowhere,
-    Code::Same,
-    Code::Equivalent,
-    Code::Always,
-    Code::Everywhere,
-    Code::Custom,
-    Code::NotCanonical,
+pub const KEY_LINTS: [KeyLint; 14] = [
+    KeyLint::Refused,
+    KeyLint::NoTable,
+    KeyLint::ReadOtherwise,
+    KeyLint::Unsupported,
+    KeyLint::Never,
+    KeyLint::UnknownTarget,
+    KeyLint::UnknownFact,
+    KeyLint::Nowhere,
+    KeyLint::Same,
+    KeyLint::Equivalent,
+    KeyLint::Always,
+    KeyLint::Everywhere,
+    KeyLint::Custom,
+    KeyLint::NotCanonical,
 ];
 
 impl Level {
@@ -87,27 +87,27 @@ pub struct Row {
     /// one with names and pairs.
     pub level: Level,
     /// The lints that hide it on the same key, whatever names they report.
-    pub hidden_by: &'static [Code],
+    pub hidden_by: &'static [KeyLint],
 }
 
 /// The lints that hide `nowhere`.
-const NOWHERE_HIDERS: [Code; 3] = [Code::UnknownTarget, Code::UnknownFact, Code::Never];
+const NOWHERE_HIDERS: [KeyLint; 3] = [KeyLint::UnknownTarget, KeyLint::UnknownFact, KeyLint::Never];
 
 /// The lints that hide `equivalent`.
-const EQUIVALENT_HIDERS: [Code; 3] = [Code::Never, Code::Always, Code::Same];
+const EQUIVALENT_HIDERS: [KeyLint; 3] = [KeyLint::Never, KeyLint::Always, KeyLint::Same];
 
 /// The lints that hide `everywhere`.
-const EVERYWHERE_HIDERS: [Code; 1] = [Code::Always];
+const EVERYWHERE_HIDERS: [KeyLint; 1] = [KeyLint::Always];
 
 /// The lints that hide `not-canonical`: those that change the key.
-const NOT_CANONICAL_HIDERS: [Code; 3] = [
-    Code::ReadOtherwise,
-    Code::UnknownTarget,
-    Code::UnknownFact,
+const NOT_CANONICAL_HIDERS: [KeyLint; 3] = [
+    KeyLint::ReadOtherwise,
+    KeyLint::UnknownTarget,
+    KeyLint::UnknownFact,
 ];
 
 impl Row {
-    const fn of(word: &'static str, level: Level, hidden_by: &'static [Code]) -> Row
+    const fn of(word: &'static str, level: Level, hidden_by: &'static [KeyLint]) -> Row
         ensures word { result.word.now ≡ word.now }
         ensures level { result.level ≡ level }
         ensures hidden_by { result.hidden_by.now ≡ hidden_by.now }
@@ -120,7 +120,7 @@ impl Row {
     }
 }
 
-impl Code {
+impl KeyLint {
     /// Returns the row of the lint.
     pub fn row(self) -> Row
         ensures word { result.word.now ≡ code_word self }
@@ -128,20 +128,20 @@ impl Code {
         ensures hidden_by { result.hidden_by.now ≡ hiders self }
     {
         match self {
-            Code::Refused => Row::of("refused", Level::Error, &[]),
-            Code::NoTable => Row::of("no-table", Level::Error, &[]),
-            Code::ReadOtherwise => Row::of("read-otherwise", Level::Warning, &[]),
-            Code::Unsupported => Row::of("unsupported", Level::Warning, &[]),
-            Code::Never => Row::of("never", Level::Warning, &[]),
-            Code::UnknownTarget => Row::of("unknown-target", Level::Warning, &[]),
-            Code::UnknownFact => Row::of("unknown-fact", Level::Warning, &[]),
-            Code::Nowhere => Row::of("nowhere", Level::Warning, &NOWHERE_HIDERS),
-            Code::Same => Row::of("same", Level::Warning, &[]),
-            Code::Equivalent => Row::of("equivalent", Level::Warning, &EQUIVALENT_HIDERS),
-            Code::Always => Row::of("always", Level::Note, &[]),
-            Code::Everywhere => Row::of("everywhere", Level::Note, &EVERYWHERE_HIDERS),
-            Code::Custom => Row::of("custom", Level::Note, &[]),
-            Code::NotCanonical => Row::of("not-canonical", Level::Note, &NOT_CANONICAL_HIDERS),
+            KeyLint::Refused => Row::of("refused", Level::Error, &[]),
+            KeyLint::NoTable => Row::of("no-table", Level::Error, &[]),
+            KeyLint::ReadOtherwise => Row::of("read-otherwise", Level::Warning, &[]),
+            KeyLint::Unsupported => Row::of("unsupported", Level::Warning, &[]),
+            KeyLint::Never => Row::of("never", Level::Warning, &[]),
+            KeyLint::UnknownTarget => Row::of("unknown-target", Level::Warning, &[]),
+            KeyLint::UnknownFact => Row::of("unknown-fact", Level::Warning, &[]),
+            KeyLint::Nowhere => Row::of("nowhere", Level::Warning, &NOWHERE_HIDERS),
+            KeyLint::Same => Row::of("same", Level::Warning, &[]),
+            KeyLint::Equivalent => Row::of("equivalent", Level::Warning, &EQUIVALENT_HIDERS),
+            KeyLint::Always => Row::of("always", Level::Note, &[]),
+            KeyLint::Everywhere => Row::of("everywhere", Level::Note, &EVERYWHERE_HIDERS),
+            KeyLint::Custom => Row::of("custom", Level::Note, &[]),
+            KeyLint::NotCanonical => Row::of("not-canonical", Level::Note, &NOT_CANONICAL_HIDERS),
         }
     }
 

@@ -4,7 +4,7 @@ ghost use Rattle.std.specs.Prelude.{◌≡◌, IfOk, None};
 ghost use Rattle.manifest_lints_findings.specs.Marks.{mark};
 ghost use Rattle.manifest_lints_findings.specs.Pointed.{IsOnTarget};
 
-use crate::codes::{Code, Level};
+use crate::codes::{KeyLint, Level};
 use crate::notes_and_helps::Children;
 use crate::pointing::SecondarySpans;
 use crate::readings::ReadKey;
@@ -17,7 +17,7 @@ pub struct Finding {
     /// The level.
     pub level: Level,
     /// The lint.
-    pub code: Code,
+    pub code: KeyLint,
     /// The index of the key among those of the report, or `None` for `target` itself.
     pub key: Option<usize>,
     /// What is wrong, in a phrase. It has one line, and no hidden characters.
@@ -49,12 +49,12 @@ pub struct Report<'a> {
 
 /// Returns the diagnostic on a `target` that is not a table. Fails if memory is refused.
 pub fn target_is_no_table(alloc: Global) -> Result<Finding, AllocError>
-    ensures mark { IfOk result (λ f. mark f ≡ (None, Code.NoTable)) }
+    ensures mark { IfOk result (λ f. mark f ≡ (None, KeyLint.NoTable)) }
     ensures parts { IfOk result IsOnTarget }
 {
     Ok(Finding {
-        level: Code::NoTable.row().level,
-        code: Code::NoTable,
+        level: KeyLint::NoTable.row().level,
+        code: KeyLint::NoTable,
         key: None,
         message: String::from_str(alloc, "`target` is not a table")?,
         children: Children::none(alloc),

@@ -10,11 +10,11 @@ ghost use Rattle.manifest_lints_findings.specs.Spells.{entry_read};
 ghost use Rattle.manifest_lints_findings.specs.Known.{IsKnown, holds_alone, has_marked_literal};
 
 use crate::chosen::is_marked_literal;
-use crate::codes::Code;
+use crate::codes::KeyLint;
 use crate::no_tables::no_tables;
 use crate::readings::{KeyMeaning, ReadKey};
 use cargo_platform::{Platform, values_with_levels};
-use manifests::Declared;
+use manifests::ExpectedCfgs;
 use predicate_classes::classes::{Category, is_unknown_target};
 use predicate_classes::key_predicates::{KeyPredicate, has_category, key_predicates};
 use predicate_classes::key_spans::spans_of;
@@ -22,7 +22,7 @@ use std::alloc::{AllocError, Global};
 
 /// The properties of a key. A key that is not a condition contains no names and pairs.
 #[derive(Drop)]
-pub struct KnownKey<'a> {
+pub struct AnalysedKey<'a> {
     /// The key as it was parsed: its text, its value, and what it spells.
     pub read: &'a ReadKey<'a>,
     /// The index of the key among those of the manifest.
@@ -39,14 +39,14 @@ pub struct KnownKey<'a> {
     pub is_unknown_target: bool,
 }
 
-impl<'a> KnownKey<'a> {
+impl<'a> AnalysedKey<'a> {
     /// Returns the properties of the parsed key at index `place`. Fails if memory is refused.
     pub fn of(
         alloc: Global,
         read: &'a ReadKey<'a>,
         place: usize,
-        declared: &Declared<'_>,
-    ) -> Result<KnownKey<'a>, AllocError>
+        declared: &ExpectedCfgs<'_>,
+    ) -> Result<AnalysedKey<'a>, AllocError>
         ensures place { IfOk result (λ k. k.place ≡ place) }
         ensures known { IfOk result (λ k. IsKnown (declarations_of declared.now) read.now k) }
     {
@@ -55,7 +55,7 @@ impl<'a> KnownKey<'a> {
             KeyMeaning::Condition(condition) => {
                 known_condition(alloc, read, place, no_tables, condition, declared)
             }
-            KeyMeaning::ByCargo(_) | KeyMeaning::Refused(_) => Ok(KnownKey {
+            KeyMeaning::ByCargo(_) | KeyMeaning::Refused(_) => Ok(AnalysedKey {
                 read,
                 place,
                 no_tables,
@@ -68,30 +68,30 @@ impl<'a> KnownKey<'a> {
     }
 
     /// Returns the properties of a key that is in no manifest.
-    pub(crate) fn alone(alloc: Global, read: &'a ReadKey<'a>) -> Result<KnownKey<'a>, AllocError>
+    pub(crate) fn alone(alloc: Global, read: &'a ReadKey<'a>) -> Result<AnalysedKey<'a>, AllocError>
         ensures place { IfOk result (λ k. k.place ≡ 0) }
         ensures known { IfOk result (λ k. IsKnown [] read.now k) }
     {
-        KnownKey::of(alloc, read, 0, &Declared::none(alloc))
+        AnalysedKey::of(alloc, read, 0, &ExpectedCfgs::none(alloc))
     }
 
     /// Returns whether a lint applies to the key. For lints that are decided over sets of facts, or by comparing keys,
     /// this is `false`.
-    pub fn holds(&self, code: Code) -> bool
+    pub fn holds(&self, code: KeyLint) -> bool
         ensures { result ≡ holds_alone self.now code }
     {
         match code {
-            Code::Refused => matches!(self.read.spelled, KeyMeaning::Refused(_)),
-            Code::NoTable => !self.no_tables.is_empty(),
-            Code::ReadOtherwise => {
+            KeyLint::Refused => matches!(self.read.spelled, KeyMeaning::Refused(_)),
+            KeyLint::NoTable => !self.no_tables.is_empty(),
+            KeyLint::ReadOtherwise => {
                 matches!(self.read.spelled, KeyMeaning::ByCargo(_))
                     || has_marked_literal(&self.predicates)
             }
-            Code::Unsupported => has_category(&self.predicates, Category::Unsupported),
-            Code::UnknownTarget => self.is_unknown_target,
-            Code::UnknownFact => has_category(&self.predicates, Category::Mistaken),
-            Code::Custom => has_category(&self.predicates, Category::Custom),
-            Code::NotCanonical => {
+            KeyLint::Unsupported => has_category(&self.predicates, Category::Unsupported),
+            KeyLint::UnknownTarget => self.is_unknown_target,
+            KeyLint::UnknownFact => has_category(&self.predicates, Category::Mistaken),
+            KeyLint::Custom => has_category(&self.predicates, Category::Custom),
+            KeyLint::NotCanonical => {
                 matches!(self.read.spelled, KeyMeaning::Condition(_))
                     && self.canonical.as_str() != self.read.text
             }
@@ -117,8 +117,8 @@ fn known_condition<'a>(
     place: usize,
     no_tables: Vec<String>,
     condition: &'a Platform,
-    declared: &Declared<'_>,
-) -> Result<KnownKey<'a>, AllocError>
+    declared: &ExpectedCfgs<'_>,
+) -> Result<AnalysedKey<'a>, AllocError>
     ensures place { IfOk result (λ k. k.place ≡ place) }
     ensures known { read.now.spelled ≡ KeyMeaning.Condition condition.now
         → is_empty_list no_tables.items ≡ not (is_no_table (entry_read read.now).1)
@@ -126,7 +126,7 @@ fn known_condition<'a>(
 {
     let met = values_with_levels(alloc, condition)?;
     let spans = spans_of(alloc, read.text)?;
-    Ok(KnownKey {
+    Ok(AnalysedKey {
         read,
         place,
         no_tables,

@@ -2,7 +2,7 @@
 
 ghost use Rattle.manifest_lints_findings.specs.Laws.{AreAllCodes, IsMostShown};
 
-/// `CODES` contains all lints, each once, in the order in which they are reported.
+/// `KEY_LINTS` contains all lints, each once, in the order in which they are reported.
 pub fn codes()
     ensures { AreAllCodes }
 {}

@@ -21,12 +21,14 @@ mod suggestions;
 mod unknown;
 mod wording;
 
-pub use codes::{CODES, Code, Level};
+pub use codes::{KEY_LINTS, KeyLint, Level};
 pub use findings::{Finding, Report};
 pub use lints::{LINTS_NOT_ON_KEYS, Lint};
 pub use meant::{near, nearest_target};
 pub use notes_and_helps::Children;
-pub use places::{Site, TableDiagnostic, add_at_top, shown_table, table_diagnostics};
+pub use places::{
+    Site, TableDiagnostic, add_top_level_diagnostics, shown_table, table_diagnostics,
+};
 pub use pointing::SecondarySpans;
 pub use suggestions::KnownFacts;
 pub use unknown::lint_condition;

@@ -3,13 +3,13 @@
 ghost use Rattle.std.specs.Prelude.{◌≡◌, IfSome};
 ghost use Rattle.manifest_lints_findings.specs.Codes.{lint_word};
 
-use crate::codes::{CODES, Code, Level};
+use crate::codes::{KEY_LINTS, KeyLint, Level};
 
-/// A lint.
+/// A lint, on a key or on another part of a manifest.
 #[derive(Clone, Copy, Debug, PartialEq, Eq, PartialOrd, Ord, Drop)]
 pub enum Lint {
     /// A lint on a key of `target`, or on `target` itself.
-    Key(Code),
+    Key(KeyLint),
     /// A name or value that rustc knew only until some release.
     Former,
     /// A table for targets that is defined where Cargo does not read it.
@@ -39,7 +39,7 @@ impl Lint {
     pub fn by_name(name: &str) -> Option<Lint>
         ensures { IfSome result (λ lint. lint_word lint ≡ name.now) }
     {
-        for code in &CODES {
+        for code in &KEY_LINTS {
             let lint = Lint::Key(*code);
             if lint.word() == name {
                 return Some(lint);

@@ -8,9 +8,9 @@ ghost use Rattle.manifest_lints_findings.specs.Pointed.{Names, PointsTo};
 ghost use Rattle.manifest_lints_findings.specs.Texts.{Mentions};
 ghost use Rattle.manifest_lints_findings.specs.Shown.{IsShownOn, IsMended};
 
-use crate::codes::{Code, Level};
+use crate::codes::{KeyLint, Level};
 use crate::findings::Finding;
-use crate::known_keys::KnownKey;
+use crate::known_keys::AnalysedKey;
 use crate::messages::message_of;
 use crate::notes_and_helps::children_of;
 use crate::pointing::secondary_spans;
@@ -19,18 +19,18 @@ use crate::suggestions::{KnownFacts, suggestion_of};
 use std::alloc::{AllocError, Global};
 
 /// Returns the level of a diagnostic of this lint on a condition with `count` names and pairs.
-fn level_of(code: Code, count: usize) -> Level
+fn level_of(code: KeyLint, count: usize) -> Level
     ensures { result ≡ finding_level code count }
 {
     match code {
-        Code::Never => {
+        KeyLint::Never => {
             if count == 0 {
                 Level::Note
             } else {
                 Level::Warning
             }
         }
-        Code::Always => {
+        KeyLint::Always => {
             if count > 0 {
                 Level::Warning
             } else {
@@ -46,9 +46,9 @@ fn level_of(code: Code, count: usize) -> Level
 pub fn finding_on(
     alloc: Global,
     known_facts: &KnownFacts,
-    key: &KnownKey<'_>,
+    key: &AnalysedKey<'_>,
     other: &str,
-    code: Code,
+    code: KeyLint,
 ) -> Result<Finding, AllocError>
     ensures mark { IfOk result (λ f. mark f ≡ (Some key.now.place, code)) }
     ensures level { IfOk result (λ f. f.level ≡ finding_level code (length key.now.predicates.items)) }
@@ -76,7 +76,7 @@ pub fn finding_on(
         pointed: secondary_spans(alloc, key, other, code)?,
     };
     match (code, &key.read.spelled) {
-        (Code::Refused, KeyMeaning::Refused(error)) => Ok(Finding {
+        (KeyLint::Refused, KeyMeaning::Refused(error)) => Ok(Finding {
             span: error.span_in(key.read.text),
             snippet: error.snippet_in(alloc, key.read.text)?,
             ..finding

@@ -7,8 +7,8 @@ ghost use Rattle.manifest_lints_findings.specs.Messages.{unmarked_text};
 ghost use Rattle.manifest_lints_findings.specs.Texts.{quoted_text};
 
 use crate::chosen::{Choice, chosen};
-use crate::codes::Code;
-use crate::known_keys::KnownKey;
+use crate::codes::KeyLint;
+use crate::known_keys::AnalysedKey;
 use crate::readings::KeyMeaning;
 use crate::wording::{both, joined, listed, quoted};
 use key_answers::printing::key_reason;
@@ -21,28 +21,28 @@ use std::alloc::{AllocError, Global};
 /// if memory is refused.
 pub fn message_of(
     alloc: Global,
-    key: &KnownKey<'_>,
+    key: &AnalysedKey<'_>,
     other: &str,
-    code: Code,
+    code: KeyLint,
 ) -> Result<String, AllocError>
     ensures named { IfOk result (λ message. NamesKey code other.now (string_bytes message)) }
     ensures shows { IfOk result (λ message. Shows code key.now (string_bytes message)) }
 {
     match code {
-        Code::Refused => refused_message(alloc, key),
-        Code::NoTable => no_table_message(alloc, key),
-        Code::ReadOtherwise => read_otherwise_message(alloc, key),
-        Code::Unsupported => unsupported_message(alloc, key),
-        Code::Never => String::from_str(alloc, "no set of facts makes the condition true"),
-        Code::UnknownTarget => unknown_target_message(alloc),
-        Code::UnknownFact => unknown_fact_message(alloc, key),
-        Code::Nowhere => nowhere_message(alloc),
-        Code::Same => behind_words(alloc, "the same condition as the earlier key ", other),
-        Code::Equivalent => behind_words(alloc, "equivalent to the earlier key ", other),
-        Code::Always => String::from_str(alloc, "every set of facts makes the condition true"),
-        Code::Everywhere => everywhere_message(alloc),
-        Code::Custom => custom_message(alloc, key),
-        Code::NotCanonical => String::from_str(alloc, "the key is not in canonical form"),
+        KeyLint::Refused => refused_message(alloc, key),
+        KeyLint::NoTable => no_table_message(alloc, key),
+        KeyLint::ReadOtherwise => read_otherwise_message(alloc, key),
+        KeyLint::Unsupported => unsupported_message(alloc, key),
+        KeyLint::Never => String::from_str(alloc, "no set of facts makes the condition true"),
+        KeyLint::UnknownTarget => unknown_target_message(alloc),
+        KeyLint::UnknownFact => unknown_fact_message(alloc, key),
+        KeyLint::Nowhere => nowhere_message(alloc),
+        KeyLint::Same => behind_words(alloc, "the same condition as the earlier key ", other),
+        KeyLint::Equivalent => behind_words(alloc, "equivalent to the earlier key ", other),
+        KeyLint::Always => String::from_str(alloc, "every set of facts makes the condition true"),
+        KeyLint::Everywhere => everywhere_message(alloc),
+        KeyLint::Custom => custom_message(alloc, key),
+        KeyLint::NotCanonical => String::from_str(alloc, "the key is not in canonical form"),
     }
 }
 
@@ -62,8 +62,8 @@ fn no_target(alloc: Global) -> Result<String, AllocError>
 }
 
 /// Returns the message for the parts of a key's value that are not tables.
-fn no_table_message(alloc: Global, key: &KnownKey<'_>) -> Result<String, AllocError>
-    ensures { IfOk result (λ s. Shows Code.NoTable key.now (string_bytes s)) }
+fn no_table_message(alloc: Global, key: &AnalysedKey<'_>) -> Result<String, AllocError>
+    ensures { IfOk result (λ s. Shows KeyLint.NoTable key.now (string_bytes s)) }
 {
     joined(alloc, &key.no_tables, key.no_tables.len(), ", ")
 }
@@ -79,15 +79,15 @@ fn fault_of(alloc: Global, key: &str, spelled: &KeyMeaning) -> Result<String, Al
 }
 
 /// Returns the message for a rejected key.
-fn refused_message(alloc: Global, key: &KnownKey<'_>) -> Result<String, AllocError>
-    ensures { IfOk result (λ s. Shows Code.Refused key.now (string_bytes s)) }
+fn refused_message(alloc: Global, key: &AnalysedKey<'_>) -> Result<String, AllocError>
+    ensures { IfOk result (λ s. Shows KeyLint.Refused key.now (string_bytes s)) }
 {
     let fault = fault_of(alloc, key.read.text, &key.read.spelled)?;
     format!(in alloc; "invalid key: {fault}")
 }
 
 /// Returns the message for a key in which Cargo reads names without their raw marks.
-fn unmarked_message(alloc: Global, key: &KnownKey<'_>) -> Result<String, AllocError>
+fn unmarked_message(alloc: Global, key: &AnalysedKey<'_>) -> Result<String, AllocError>
     ensures { IfOk result (λ s. string_bytes s ≡ unmarked_text key.now.predicates.items) }
 {
     let literals = chosen(alloc, &key.predicates, Choice::Literal)?;
@@ -97,8 +97,8 @@ fn unmarked_message(alloc: Global, key: &KnownKey<'_>) -> Result<String, AllocEr
 
 /// Returns the message for a key that Cargo reads otherwise: only Cargo accepts it, or Cargo reads names without their
 /// raw marks.
-fn read_otherwise_message(alloc: Global, key: &KnownKey<'_>) -> Result<String, AllocError>
-    ensures { IfOk result (λ s. Shows Code.ReadOtherwise key.now (string_bytes s)) }
+fn read_otherwise_message(alloc: Global, key: &AnalysedKey<'_>) -> Result<String, AllocError>
+    ensures { IfOk result (λ s. Shows KeyLint.ReadOtherwise key.now (string_bytes s)) }
 {
     match &key.read.spelled {
         KeyMeaning::ByCargo(_) => String::from_str(alloc, "Cargo accepts the key with a warning"),
@@ -107,8 +107,8 @@ fn read_otherwise_message(alloc: Global, key: &KnownKey<'_>) -> Result<String, A
 }
 
 /// Returns the message for facts that Cargo does not set when it selects dependencies.
-fn unsupported_message(alloc: Global, key: &KnownKey<'_>) -> Result<String, AllocError>
-    ensures { IfOk result (λ s. Shows Code.Unsupported key.now (string_bytes s)) }
+fn unsupported_message(alloc: Global, key: &AnalysedKey<'_>) -> Result<String, AllocError>
+    ensures { IfOk result (λ s. Shows KeyLint.Unsupported key.now (string_bytes s)) }
 {
     let facts = chosen(
         alloc,
@@ -151,8 +151,8 @@ fn features_message(alloc: Global, features: &[KeyPredicate<'_>]) -> Result<Stri
 }
 
 /// Returns the message for mistaken facts.
-fn unknown_fact_message(alloc: Global, key: &KnownKey<'_>) -> Result<String, AllocError>
-    ensures { IfOk result (λ s. Shows Code.UnknownFact key.now (string_bytes s)) }
+fn unknown_fact_message(alloc: Global, key: &AnalysedKey<'_>) -> Result<String, AllocError>
+    ensures { IfOk result (λ s. Shows KeyLint.UnknownFact key.now (string_bytes s)) }
 {
     let mistakes = chosen(
         alloc,
@@ -202,8 +202,8 @@ fn unstable_message(alloc: Global, facts: &[KeyPredicate<'_>]) -> Result<String,
 }
 
 /// Returns the message for facts that only flags set, and for those that only unstable features set.
-fn custom_message(alloc: Global, key: &KnownKey<'_>) -> Result<String, AllocError>
-    ensures { IfOk result (λ s. Shows Code.Custom key.now (string_bytes s)) }
+fn custom_message(alloc: Global, key: &AnalysedKey<'_>) -> Result<String, AllocError>
+    ensures { IfOk result (λ s. Shows KeyLint.Custom key.now (string_bytes s)) }
 {
     let custom = chosen(alloc, &key.predicates, Choice::OfCategory(Category::Custom))?;
     let flagged = chosen(alloc, &custom, Choice::Stable)?;

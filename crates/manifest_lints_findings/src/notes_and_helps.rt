@@ -10,8 +10,8 @@ ghost use Rattle.manifest_lints_findings.specs.Messages.{cargo_words, cargo_note
 ghost use Rattle.manifest_lints_findings.specs.Texts.{quoted_text, Mentions};
 
 use crate::chosen::{Choice, chosen};
-use crate::codes::Code;
-use crate::known_keys::KnownKey;
+use crate::codes::KeyLint;
+use crate::known_keys::AnalysedKey;
 use crate::no_tables::meant_tables;
 use crate::readings::{CargoReading, KeyMeaning};
 use crate::suggestions::{KnownFacts, instead_of};
@@ -85,9 +85,9 @@ fn only_words(alloc: Global, text: &str) -> Result<Vec<String>, AllocError> {
 pub fn children_of(
     alloc: Global,
     known_facts: &KnownFacts,
-    key: &KnownKey<'_>,
+    key: &AnalysedKey<'_>,
     meant: &Option<String>,
-    code: Code,
+    code: KeyLint,
 ) -> Result<Children, AllocError>
     ensures notes { IfOk result (λ c. Mentions (noted_texts code key.now) (said c.notes.items)) }
     ensures helps { IfOk result (λ c. Mentions (help_texts code key.now meant.now) (said c.helps.items)) }
@@ -98,16 +98,16 @@ pub fn children_of(
 }
 
 /// Returns the notes of the diagnostic of this lint.
-fn notes_of(alloc: Global, key: &KnownKey<'_>, code: Code) -> Result<Vec<String>, AllocError>
+fn notes_of(alloc: Global, key: &AnalysedKey<'_>, code: KeyLint) -> Result<Vec<String>, AllocError>
     ensures { IfOk result (λ notes. Mentions (noted_texts code key.now) (said notes.items)) }
 {
     match code {
-        Code::ReadOtherwise => notes_on_reading(alloc, &key.read.spelled),
-        Code::Unsupported => notes_on_unsupported(alloc, key),
-        Code::UnknownTarget => only_words(alloc, OWN),
-        Code::UnknownFact => notes_on_mistakes(alloc, &key.predicates),
-        Code::Nowhere => only_words(alloc, OWN_FACTS),
-        Code::Custom => notes_on_custom(alloc, key),
+        KeyLint::ReadOtherwise => notes_on_reading(alloc, &key.read.spelled),
+        KeyLint::Unsupported => notes_on_unsupported(alloc, key),
+        KeyLint::UnknownTarget => only_words(alloc, OWN),
+        KeyLint::UnknownFact => notes_on_mistakes(alloc, &key.predicates),
+        KeyLint::Nowhere => only_words(alloc, OWN_FACTS),
+        KeyLint::Custom => notes_on_custom(alloc, key),
         _ => Ok(Vec::new(alloc)),
     }
 }
@@ -183,7 +183,7 @@ fn warnings_on(alloc: Global, facts: &[KeyPredicate<'_>]) -> Result<Vec<String>,
 }
 
 /// Returns the note on facts that do not select dependencies: Cargo's warnings, on one line.
-fn unsupported_note(alloc: Global, key: &KnownKey<'_>) -> Result<String, AllocError>
+fn unsupported_note(alloc: Global, key: &AnalysedKey<'_>) -> Result<String, AllocError>
     ensures { IfOk result (λ s. Mentions
         (unsupported_in (chosen (Choice.OfCategory Category.Unsupported) key.now.predicates.items) ∷ []) (string_bytes s)) }
 {
@@ -199,7 +199,7 @@ fn unsupported_note(alloc: Global, key: &KnownKey<'_>) -> Result<String, AllocEr
 }
 
 /// Returns the notes on facts that do not select dependencies.
-fn notes_on_unsupported(alloc: Global, key: &KnownKey<'_>) -> Result<Vec<String>, AllocError>
+fn notes_on_unsupported(alloc: Global, key: &AnalysedKey<'_>) -> Result<Vec<String>, AllocError>
     ensures { IfOk result (λ notes. Mentions
         (unsupported_in (chosen (Choice.OfCategory Category.Unsupported) key.now.predicates.items) ∷ []) (said notes.items)) }
 {
@@ -235,7 +235,7 @@ fn notes_on_mistakes(
 }
 
 /// Returns the notes on facts that only flags or unstable features set.
-fn notes_on_custom(alloc: Global, key: &KnownKey<'_>) -> Result<Vec<String>, AllocError> {
+fn notes_on_custom(alloc: Global, key: &AnalysedKey<'_>) -> Result<Vec<String>, AllocError> {
     let custom = chosen(alloc, &key.predicates, Choice::OfCategory(Category::Custom))?;
     if chosen(alloc, &custom, Choice::Stable)?.is_empty() {
         return Ok(Vec::new(alloc));
@@ -247,14 +247,14 @@ fn notes_on_custom(alloc: Global, key: &KnownKey<'_>) -> Result<Vec<String>, All
 fn helps_of(
     alloc: Global,
     known_facts: &KnownFacts,
-    key: &KnownKey<'_>,
+    key: &AnalysedKey<'_>,
     meant: &Option<String>,
-    code: Code,
+    code: KeyLint,
 ) -> Result<Vec<String>, AllocError>
     ensures { IfOk result (λ helps. Mentions (help_texts code key.now meant.now) (said helps.items)) }
 {
     match code {
-        Code::NotCanonical => to_write(alloc, key.canonical.as_str()),
+        KeyLint::NotCanonical => to_write(alloc, key.canonical.as_str()),
         _ => helps_with(alloc, known_facts, key, meant, code),
     }
 }
@@ -281,9 +281,9 @@ fn to_mean(alloc: Global, text: &str) -> Result<Vec<String>, AllocError>
 fn helps_with(
     alloc: Global,
     known_facts: &KnownFacts,
-    key: &KnownKey<'_>,
+    key: &AnalysedKey<'_>,
     meant: &Option<String>,
-    code: Code,
+    code: KeyLint,
 ) -> Result<Vec<String>, AllocError>
     ensures { IfOk result (λ helps. Mentions (meant_shown meant.now) (said helps.items)) }
 {
@@ -294,11 +294,11 @@ fn helps_with(
 }
 
 /// Returns the help to use a text in place of the key.
-fn to_use(alloc: Global, text: &str, code: Code) -> Result<Vec<String>, AllocError>
+fn to_use(alloc: Global, text: &str, code: KeyLint) -> Result<Vec<String>, AllocError>
     ensures { IfOk result (λ helps. Mentions (quoted_text text.now ∷ []) (said helps.items)) }
 {
     match code {
-        Code::ReadOtherwise => to_write(alloc, text),
+        KeyLint::ReadOtherwise => to_write(alloc, text),
         _ => to_mean(alloc, text),
     }
 }
@@ -307,19 +307,19 @@ fn to_use(alloc: Global, text: &str, code: Code) -> Result<Vec<String>, AllocErr
 fn hints(
     alloc: Global,
     known_facts: &KnownFacts,
-    key: &KnownKey<'_>,
-    code: Code,
+    key: &AnalysedKey<'_>,
+    code: KeyLint,
 ) -> Result<Vec<String>, AllocError> {
     match code {
-        Code::Refused => match instead_of_fault(key.read.text) {
+        KeyLint::Refused => match instead_of_fault(key.read.text) {
             Some(hint) => only_words(alloc, hint),
             None => Ok(Vec::new(alloc)),
         },
-        Code::NoTable => match key.read.value {
+        KeyLint::NoTable => match key.read.value {
             Some(value) => meant_tables(alloc, value),
             None => Ok(Vec::new(alloc)),
         },
-        Code::UnknownFact => hints_on_mistakes(alloc, known_facts, &key.predicates),
+        KeyLint::UnknownFact => hints_on_mistakes(alloc, known_facts, &key.predicates),
         _ => Ok(Vec::new(alloc)),
     }
 }

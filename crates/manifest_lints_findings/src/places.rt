@@ -6,7 +6,7 @@ use crate::meant::near;
 use crate::notes_and_helps::Children;
 use cargo_platform::shown_start;
 use known_targets::KnownTarget;
-use manifests::key_locations::path_of;
+use manifests::key_locations::key_path;
 use std::alloc::{AllocError, Global};
 use toml::{Table, Value};
 use toml_spans::Span;
@@ -14,7 +14,7 @@ use toml_spans::Span;
 /// The part of a manifest that is at fault.
 #[derive(Drop)]
 pub enum Site {
-    /// The name at this path, as `path_of` writes it.
+    /// The name at this path, as `key_path` writes it.
     Named(String),
     /// A field of a key of `target`: the key, and the field.
     Field(String, String),
@@ -94,7 +94,7 @@ fn add_unread(
     meant: &str,
     found: &mut Vec<TableDiagnostic>,
 ) -> Result<(), AllocError> {
-    let path = path_of(alloc, &[name])?;
+    let path = key_path(alloc, &[name])?;
     let meant = shown_start(alloc, meant)?;
     let help = format!(in alloc; "did you mean `{meant}`?")?;
     found.push(unread(alloc, name, path, help)?)?;
@@ -136,7 +136,7 @@ fn add_inside(
     part: &str,
     found: &mut Vec<TableDiagnostic>,
 ) -> Result<(), AllocError> {
-    let path = path_of(alloc, &[part, "target"])?;
+    let path = key_path(alloc, &[part, "target"])?;
     let name = format!(in alloc; "{part}.target")?;
     let help = format!(in alloc;
         "move `target` out of `{part}`, to the top level of the manifest"
@@ -147,7 +147,7 @@ fn add_inside(
 
 /// Adds the diagnostics on tables at the top level of a manifest, or of a configuration, that Cargo does not read.
 /// Fails if memory is refused.
-pub fn add_at_top(
+pub fn add_top_level_diagnostics(
     alloc: Global,
     manifest: &Table,
     found: &mut Vec<TableDiagnostic>,
@@ -234,9 +234,9 @@ fn path_of_member(
     is_of_workspace: bool,
 ) -> Result<String, AllocError> {
     if is_of_workspace {
-        return path_of(alloc, &["workspace", name, member]);
+        return key_path(alloc, &["workspace", name, member]);
     }
-    path_of(alloc, &[name, member])
+    key_path(alloc, &[name, member])
 }
 
 /// Returns whether the table of a dependency says where its package comes from.
@@ -375,7 +375,7 @@ fn site_of_table(alloc: Global, key: Option<&str>, name: &str) -> Result<Site, A
             String::from_str(alloc, key)?,
             String::from_str(alloc, name)?,
         )),
-        None => Ok(Site::Named(path_of(alloc, &[name])?)),
+        None => Ok(Site::Named(key_path(alloc, &[name])?)),
     }
 }
 
@@ -431,7 +431,7 @@ pub fn table_diagnostics(
     manifest: &Table,
 ) -> Result<Vec<TableDiagnostic>, AllocError> {
     let mut found = Vec::new(alloc);
-    add_at_top(alloc, manifest, &mut found)?;
+    add_top_level_diagnostics(alloc, manifest, &mut found)?;
     add_among_packages(alloc, manifest, &mut found)?;
     let is_refused = is_of_2024(manifest);
     add_underscored(alloc, manifest, None, is_refused, &mut found)?;

@@ -6,8 +6,8 @@ ghost use Rattle.manifest_lints_findings.specs.Pointed.{PointsTo, PointsToKey, P
 ghost use Rattle.manifest_lints_findings.specs.Spells.{data_at};
 
 use crate::chosen::{Choice, chosen};
-use crate::codes::Code;
-use crate::known_keys::KnownKey;
+use crate::codes::KeyLint;
+use crate::known_keys::AnalysedKey;
 use crate::no_tables::no_table_fields;
 use crate::wording::MOST_SHOWN;
 use predicate_classes::classes::Category;
@@ -40,14 +40,14 @@ impl SecondarySpans {
 }
 
 /// Returns which names and pairs the diagnostic of this lint is about.
-fn choice_of(code: Code) -> Option<Choice>
+fn choice_of(code: KeyLint) -> Option<Choice>
     ensures { result ≡ choice_of code }
 {
     match code {
-        Code::UnknownFact => Some(Choice::OfCategory(Category::Mistaken)),
-        Code::Unsupported => Some(Choice::OfCategory(Category::Unsupported)),
-        Code::Custom => Some(Choice::OfCategory(Category::Custom)),
-        Code::ReadOtherwise => Some(Choice::Literal),
+        KeyLint::UnknownFact => Some(Choice::OfCategory(Category::Mistaken)),
+        KeyLint::Unsupported => Some(Choice::OfCategory(Category::Unsupported)),
+        KeyLint::Custom => Some(Choice::OfCategory(Category::Custom)),
+        KeyLint::ReadOtherwise => Some(Choice::Literal),
         _ => None,
     }
 }
@@ -70,7 +70,7 @@ fn spans_in(alloc: Global, predicates: &[KeyPredicate<'_>]) -> Result<Vec<Span>,
 fn facts_at_fault(
     alloc: Global,
     predicates: &[KeyPredicate<'_>],
-    code: Code,
+    code: KeyLint,
 ) -> Result<Vec<Span>, AllocError>
     ensures { IfOk result (λ spans. spans.items ≡ spans_of (choice_of code) predicates.now) }
 {
@@ -84,22 +84,26 @@ fn facts_at_fault(
 }
 
 /// Returns the names of the fields that the diagnostic of this lint is about.
-fn fields_at_fault(alloc: Global, key: &KnownKey<'_>, code: Code) -> Result<Vec<String>, AllocError>
+fn fields_at_fault(
+    alloc: Global,
+    key: &AnalysedKey<'_>,
+    code: KeyLint,
+) -> Result<Vec<String>, AllocError>
     ensures { IfOk result
         (λ fields. map (λ s. string_bytes s) fields.items ≡ fields_of code (data_at key.now.read.now.value)) }
 {
     match (code, key.read.value) {
-        (Code::NoTable, Some(value)) => no_table_fields(alloc, value),
+        (KeyLint::NoTable, Some(value)) => no_table_fields(alloc, value),
         _ => Ok(Vec::new(alloc)),
     }
 }
 
 /// Returns the earlier key, if the diagnostic of this lint compares two keys.
-fn earlier_of(alloc: Global, other: &str, code: Code) -> Result<Option<String>, AllocError>
+fn earlier_of(alloc: Global, other: &str, code: KeyLint) -> Result<Option<String>, AllocError>
     ensures { IfOk result (PointsToKey code other.now) }
 {
     match code {
-        Code::Same | Code::Equivalent => Ok(Some(String::from_str(alloc, other)?)),
+        KeyLint::Same | KeyLint::Equivalent => Ok(Some(String::from_str(alloc, other)?)),
         _ => Ok(None),
     }
 }
@@ -108,9 +112,9 @@ fn earlier_of(alloc: Global, other: &str, code: Code) -> Result<Option<String>, 
 /// equivalent. Fails if memory is refused.
 pub fn secondary_spans(
     alloc: Global,
-    key: &KnownKey<'_>,
+    key: &AnalysedKey<'_>,
     other: &str,
-    code: Code,
+    code: KeyLint,
 ) -> Result<SecondarySpans, AllocError>
     ensures parts { IfOk result (PointsTo code key.now) }
     ensures earlier { IfOk result (λ found. PointsToKey code other.now found.earlier) }

@@ -4,8 +4,8 @@ ghost use Rattle.std.specs.Prelude.{IsTrue, IfOk, IfSome, string_bytes};
 ghost use Rattle.cargo_platform.specs.Trees.{condition_of};
 ghost use Rattle.manifest_lints_findings.specs.Shown.{IsRidOf, IsMended};
 
-use crate::codes::Code;
-use crate::known_keys::KnownKey;
+use crate::codes::KeyLint;
+use crate::known_keys::AnalysedKey;
 use crate::meant::{if_known, meant_value, near, nearest_target};
 use crate::meant_features::feature_instead_of;
 use crate::readings::{KeyMeaning, ReadKey};
@@ -292,7 +292,7 @@ fn cfg_instead_of(alloc: Global, key: &str, name: &str) -> Result<Option<String>
 }
 
 /// Returns the key that can replace the name of a target that is not known.
-fn key_instead_of(alloc: Global, key: &KnownKey<'_>) -> Result<Option<String>, AllocError> {
+fn key_instead_of(alloc: Global, key: &AnalysedKey<'_>) -> Result<Option<String>, AllocError> {
     let name = key.read.text.to_ascii_lowercase(alloc)?;
     let found = cfg_of_name(alloc, name.as_str())?;
     if found.is_some() {
@@ -323,7 +323,7 @@ fn cfg_of_name(alloc: Global, name: &str) -> Result<Option<String>, AllocError> 
 }
 
 /// Returns the known target whose name TOML splits into two keys, as in `[target.thumbv8m.main-none-eabi]`.
-fn dotted_target(alloc: Global, key: &KnownKey<'_>) -> Result<Option<String>, AllocError> {
+fn dotted_target(alloc: Global, key: &AnalysedKey<'_>) -> Result<Option<String>, AllocError> {
     let Some(Some(table)) = key.read.value.map(|value: &Value| value.as_table()) else {
         return Ok(None);
     };
@@ -338,7 +338,7 @@ fn dotted_target(alloc: Global, key: &KnownKey<'_>) -> Result<Option<String>, Al
 }
 
 /// Returns the target that a key names by `target = ".."` alone.
-fn named_target<'a>(key: &KnownKey<'a>) -> Option<&'a str> {
+fn named_target<'a>(key: &AnalysedKey<'a>) -> Option<&'a str> {
     match &key.read.spelled {
         KeyMeaning::Condition(Platform::Cfg(CfgExpr::Value(Cfg::KeyPair(name, value))))
             if name.as_str() == "target" => { Some(value.as_str()) }
@@ -371,7 +371,7 @@ fn push_repaired(
 fn with_facts_replaced(
     alloc: Global,
     known_facts: &KnownFacts,
-    key: &KnownKey<'_>,
+    key: &AnalysedKey<'_>,
 ) -> Result<Option<String>, AllocError> {
     let text = key.read.text;
     let mut repaired = String::new(alloc);
@@ -392,7 +392,7 @@ fn with_facts_replaced(
 fn repaired(
     alloc: Global,
     known_facts: &KnownFacts,
-    key: &KnownKey<'_>,
+    key: &AnalysedKey<'_>,
 ) -> Result<Option<String>, AllocError> {
     match named_target(key) {
         Some(name) => Ok(Some(String::from_str(alloc, name)?)),
@@ -405,8 +405,8 @@ fn repaired(
 pub fn suggestion_of(
     alloc: Global,
     known_facts: &KnownFacts,
-    key: &KnownKey<'_>,
-    code: Code,
+    key: &AnalysedKey<'_>,
+    code: KeyLint,
 ) -> Result<Option<String>, AllocError>
     ensures { IfOk result (λ s. IfSome s (λ text. IsMended code (string_bytes text))) }
 {
@@ -417,7 +417,7 @@ pub fn suggestion_of(
 }
 
 /// Returns whether a text is a condition on which this lint reports nothing.
-fn is_mended(alloc: Global, text: &str, code: Code) -> Result<bool, AllocError>
+fn is_mended(alloc: Global, text: &str, code: KeyLint) -> Result<bool, AllocError>
     ensures { IfOk result (λ b. IsTrue b → IsMended code text.now) }
 {
     match Platform::from_str(alloc, text) {
@@ -428,17 +428,22 @@ fn is_mended(alloc: Global, text: &str, code: Code) -> Result<bool, AllocError>
 }
 
 /// Returns whether this lint reports nothing on a text with this condition.
-fn is_rid_of(alloc: Global, text: &str, condition: Platform, code: Code) -> Result<bool, AllocError>
+fn is_rid_of(
+    alloc: Global,
+    text: &str,
+    condition: Platform,
+    code: KeyLint,
+) -> Result<bool, AllocError>
     ensures { IfOk result (λ b. IsTrue b → IsRidOf code text.now (condition_of condition)) }
 {
     let read = ReadKey::alone(text, condition);
-    let known = KnownKey::alone(alloc, &read)?;
+    let known = AnalysedKey::alone(alloc, &read)?;
     match code {
-        Code::Refused
-        | Code::ReadOtherwise
-        | Code::UnknownTarget
-        | Code::UnknownFact
-        | Code::NotCanonical => Ok(!known.holds(code)),
+        KeyLint::Refused
+        | KeyLint::ReadOtherwise
+        | KeyLint::UnknownTarget
+        | KeyLint::UnknownFact
+        | KeyLint::NotCanonical => Ok(!known.holds(code)),
         _ => Ok(false),
     }
 }
@@ -447,15 +452,15 @@ fn is_rid_of(alloc: Global, text: &str, condition: Platform, code: Code) -> Resu
 fn text_instead(
     alloc: Global,
     known_facts: &KnownFacts,
-    key: &KnownKey<'_>,
-    code: Code,
+    key: &AnalysedKey<'_>,
+    code: KeyLint,
 ) -> Result<Option<String>, AllocError> {
     match (code, &key.read.spelled) {
-        (Code::Refused, _) => repaired_key(alloc, key.read.text),
-        (Code::ReadOtherwise, KeyMeaning::ByCargo(marked)) => Ok(Some(marked.key.clone()?)),
-        (Code::UnknownTarget, _) => key_instead_of(alloc, key),
-        (Code::UnknownFact, _) => repaired(alloc, known_facts, key),
-        (Code::NotCanonical, _) => Ok(Some(key.canonical.clone()?)),
+        (KeyLint::Refused, _) => repaired_key(alloc, key.read.text),
+        (KeyLint::ReadOtherwise, KeyMeaning::ByCargo(marked)) => Ok(Some(marked.key.clone()?)),
+        (KeyLint::UnknownTarget, _) => key_instead_of(alloc, key),
+        (KeyLint::UnknownFact, _) => repaired(alloc, known_facts, key),
+        (KeyLint::NotCanonical, _) => Ok(Some(key.canonical.clone()?)),
         _ => Ok(None),
     }
 }

@@ -6,9 +6,9 @@ ghost use Rattle.manifest_lints_findings.specs.Known.{holds_alone};
 ghost use Rattle.manifest_lints_findings.specs.Marks.{marks};
 ghost use Rattle.manifest_lints_findings.specs.Unknown.{mark_where, AreUnknown};
 
-use crate::codes::Code;
+use crate::codes::KeyLint;
 use crate::findings::Finding;
-use crate::known_keys::KnownKey;
+use crate::known_keys::AnalysedKey;
 use crate::making::finding_on;
 use crate::readings::ReadKey;
 use crate::suggestions::KnownFacts;
@@ -27,17 +27,23 @@ pub fn lint_condition(
     ensures { IfOk result (λ fs. AreUnknown (condition_of condition) (marks fs.items)) }
 {
     let read = ReadKey::alone(key, condition);
-    let known = KnownKey::alone(alloc, &read)?;
+    let known = AnalysedKey::alone(alloc, &read)?;
     let mut findings = Vec::new(alloc);
     add_where(
         alloc,
         known_facts,
         &known,
-        Code::UnknownTarget,
+        KeyLint::UnknownTarget,
         &mut findings,
     )?;
-    add_where(alloc, known_facts, &known, Code::UnknownFact, &mut findings)?;
-    add_where(alloc, known_facts, &known, Code::Custom, &mut findings)?;
+    add_where(
+        alloc,
+        known_facts,
+        &known,
+        KeyLint::UnknownFact,
+        &mut findings,
+    )?;
+    add_where(alloc, known_facts, &known, KeyLint::Custom, &mut findings)?;
     Ok(findings)
 }
 
@@ -45,8 +51,8 @@ pub fn lint_condition(
 fn add_where(
     alloc: Global,
     known_facts: &KnownFacts,
-    key: &KnownKey<'_>,
-    code: Code,
+    key: &AnalysedKey<'_>,
+    code: KeyLint,
     findings: &mut Vec<Finding>,
 ) -> Result<(), AllocError>
     ensures { OnOk result (marks findings.new.items

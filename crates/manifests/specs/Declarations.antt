@@ -9,7 +9,7 @@ use Rattle.cargo_platform.specs.Tokens.{Lexeme, LeftParen, RightParen, Ident, Co
 use Rattle.cargo_platform.specs.Cut.{Lexical, Nothing, ComesBehind, lexemes}
 use Rattle.cargo_platform.specs.Trees.{CfgValue, Alone, KeyPair}
 use Rattle.partial_facts.specs.Partly.{is_named, names_of}
-use Rattle.manifests.specs.declared.declared.Declared.{Declared}
+use Rattle.manifests.specs.declared.declared.ExpectedCfgs.{ExpectedCfgs}
 use Rattle.manifests.specs.declared.declared.Entry.{Entry}
 use Rattle.manifests.specs.declared.declared.Values.{Values}
 use Rattle.manifests.specs.declared.declared.Values.TheVariants as values
@@ -140,7 +140,7 @@ check_cfg_texts ms = strings (unwrap_or (option_and_then as_array (check_cfg_of 
 abbrev pub IsDeclaredBy : Members → List DeclaredEntry → Type 0
 IsDeclaredBy ms es = DeclareEach (check_cfg_texts ms) es
 
--- ---- the meaning of a `Declared`
+-- ---- the meaning of an `ExpectedCfgs`
 
 abbrev pub lexemes_in : List Token → List Lexeme
 lexemes_in ts = map lexeme ts
@@ -152,5 +152,5 @@ values_in (values.Listed texts none) = Listed (names_of texts.items) none
 abbrev pub entry_in : Entry → DeclaredEntry
 entry_in e = record { names = names_of e.names.items; values = values_in e.values }
 
-abbrev pub declarations_of : Declared → List DeclaredEntry
+abbrev pub declarations_of : ExpectedCfgs → List DeclaredEntry
 declarations_of d = map entry_in d.entries.items

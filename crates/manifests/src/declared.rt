@@ -38,16 +38,16 @@ struct Entry<'a> {
 
 /// The names and pairs that a manifest declares as expected.
 #[derive(Drop)]
-pub struct Declared<'a> {
+pub struct ExpectedCfgs<'a> {
     entries: Vec<Entry<'a>>,
 }
 
-impl<'a> Declared<'a> {
+impl<'a> ExpectedCfgs<'a> {
     /// Returns no declarations, as for a manifest without any.
-    pub fn none(alloc: Global) -> Declared<'a>
+    pub fn none(alloc: Global) -> ExpectedCfgs<'a>
         ensures { declarations_of result ≡ [] }
     {
-        Declared {
+        ExpectedCfgs {
             entries: Vec::new(alloc),
         }
     }
@@ -55,14 +55,14 @@ impl<'a> Declared<'a> {
     /// Returns the declarations of a manifest: texts of the forms `cfg(NAME, ..)` and `cfg(NAME, .., values(..))` with
     /// texts, `any()` and `none()` between the parentheses. Texts of other forms declare nothing. Fails if an
     /// allocation fails.
-    pub fn of(alloc: Global, manifest: &'a Table) -> Result<Declared<'a>, AllocError>
+    pub fn of(alloc: Global, manifest: &'a Table) -> Result<ExpectedCfgs<'a>, AllocError>
         ensures { IfOk result (λ d. IsDeclaredBy (table_view manifest.now) (declarations_of d)) }
     {
         let mut entries = Vec::new(alloc);
         'values: for value in items_of(check_cfg(manifest)) {
             add_value(alloc, value, &mut entries)?;
         }
-        Ok(Declared { entries })
+        Ok(ExpectedCfgs { entries })
     }
 
     /// Returns whether a name or pair is declared.

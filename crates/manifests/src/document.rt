@@ -5,7 +5,7 @@ ghost use Rattle.toml.specs.View.{table_view};
 ghost use Rattle.manifests.specs.Tables.{target_of, target_told};
 ghost use Rattle.manifests.specs.Documents.{AreInSomeOrder};
 
-use crate::key_locations::Locations;
+use crate::key_locations::SourceMap;
 use crate::{Targets, target_keys};
 use std::alloc::{AllocError, Global};
 use toml::Table;
@@ -14,7 +14,7 @@ use toml::Table;
 #[derive(Drop)]
 pub struct Document {
     pub table: Table,
-    pub locations: Locations,
+    pub locations: SourceMap,
 }
 
 impl Document {
@@ -23,7 +23,7 @@ impl Document {
     pub fn of(alloc: Global, table: Table, text: &str) -> Result<Document, AllocError> {
         Ok(Document {
             table,
-            locations: Locations::of(alloc, text)?,
+            locations: SourceMap::of(alloc, text)?,
         })
     }
 
@@ -31,7 +31,7 @@ impl Document {
     pub fn of_table(alloc: Global, table: Table) -> Document {
         Document {
             table,
-            locations: Locations::none(alloc),
+            locations: SourceMap::none(alloc),
         }
     }
 

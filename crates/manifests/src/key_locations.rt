@@ -27,7 +27,7 @@ pub struct Location {
 
 /// The position at which a key of `target` first appears.
 #[derive(Clone, Copy, Debug, PartialEq, Eq, Drop)]
-pub struct Appearance {
+pub struct FirstOccurrence {
     /// The number of keys that appear before it.
     pub place: usize,
     /// The place at which the text spells the key.
@@ -36,12 +36,12 @@ pub struct Appearance {
 
 /// The text of a manifest, and the places at which it first spells names.
 #[derive(Drop)]
-pub struct Locations {
+pub struct SourceMap {
     /// The text, or the empty text if it was not gone through.
     pub text: String,
     /// The place of `target` itself.
     pub target: Option<Location>,
-    keys: BTreeMap<String, Appearance>,
+    keys: BTreeMap<String, FirstOccurrence>,
     /// The places of other names, by their paths.
     others: BTreeMap<String, Location>,
     /// The later places of keys that the text spells more than once, by the keys.
@@ -63,7 +63,7 @@ enum OpenValue {
 struct Walk<'a> {
     alloc: Global,
     cursor: Cursor<'a>,
-    locations: Locations,
+    locations: SourceMap,
     open: Vec<OpenValue>,
     /// The table of the last header.
     within: Within,
@@ -140,25 +140,25 @@ fn note_again(
     Ok(())
 }
 
-impl Locations {
+impl SourceMap {
     /// Returns the places in the text of a manifest. Fails if an allocation fails.
-    pub fn of(alloc: Global, text: &str) -> Result<Locations, AllocError> {
-        Locations::walked(alloc, text, false)
+    pub fn of(alloc: Global, text: &str) -> Result<SourceMap, AllocError> {
+        SourceMap::walked(alloc, text, false)
     }
 
     /// Returns the places of all names in the text of a document that is no manifest, and of the elements of its
     /// arrays, which `at_path` has: those of texts, and of tables after `[[..]]` by their headers. Fails if an
     /// allocation fails.
-    pub fn of_all(alloc: Global, text: &str) -> Result<Locations, AllocError> {
-        Locations::walked(alloc, text, true)
+    pub fn of_all(alloc: Global, text: &str) -> Result<SourceMap, AllocError> {
+        SourceMap::walked(alloc, text, true)
     }
 
     /// Returns the places in a text: of all names, or of those on which `lint` reports.
-    fn walked(alloc: Global, text: &str, records_all: bool) -> Result<Locations, AllocError> {
+    fn walked(alloc: Global, text: &str, records_all: bool) -> Result<SourceMap, AllocError> {
         let mut walk = Walk {
             alloc,
             cursor: Cursor::new(text),
-            locations: Locations::none(alloc),
+            locations: SourceMap::none(alloc),
             open: Vec::new(alloc),
             within: top_of(alloc, records_all),
             records_all,
@@ -176,8 +176,8 @@ impl Locations {
     }
 
     /// Returns an empty text, and no places.
-    pub fn none(alloc: Global) -> Locations {
-        Locations {
+    pub fn none(alloc: Global) -> SourceMap {
+        SourceMap {
             text: String::new(alloc),
             target: None,
             keys: BTreeMap::new(alloc),
@@ -188,7 +188,7 @@ impl Locations {
     }
 
     /// Returns the position at which a key of `target` first appears, if it is known.
-    pub fn appearance_of(&self, key: &str) -> Option<Appearance> {
+    pub fn appearance_of(&self, key: &str) -> Option<FirstOccurrence> {
         self.keys.get(key).copied()
     }
 
@@ -208,7 +208,7 @@ impl Locations {
         }
     }
 
-    /// Returns the place of the name at a path, as `path_of` writes it, if it is recorded. These names are recorded:
+    /// Returns the place of the name at a path, as `key_path` writes it, if it is recorded. These names are recorded:
     ///
     /// - at the top, those that begin with `cfg(`, names of known targets, `dev_dependencies` and `build_dependencies`,
     ///   and others of 5 to 7 bytes;
@@ -279,7 +279,7 @@ impl Locations {
         }
         let place = self.keys.len();
         let key = String::from_str(alloc, key)?;
-        let _none = self.keys.insert(key, Appearance { place, at })?;
+        let _none = self.keys.insert(key, FirstOccurrence { place, at })?;
         Ok(())
     }
 
@@ -517,7 +517,7 @@ impl<'a> Walk<'a> {
 }
 
 /// Returns a path as one text, which differs from that of every other path. Fails if an allocation fails.
-pub fn path_of(alloc: Global, names: &[&str]) -> Result<String, AllocError> {
+pub fn key_path(alloc: Global, names: &[&str]) -> Result<String, AllocError> {
     let mut path = String::new(alloc);
     for name in names {
         path = path_behind(alloc, path.as_str(), name)?;

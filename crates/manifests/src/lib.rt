@@ -13,7 +13,7 @@ pub mod reading;
 pub mod selection;
 pub mod tables;
 
-pub use declared::Declared;
+pub use declared::ExpectedCfgs;
 pub use selection::{
     Decision, DependencyDecision, SelectError, TargetFacts, decide_condition, select,
 };

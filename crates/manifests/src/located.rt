@@ -3,7 +3,7 @@
 ghost use Rattle.std.specs.Prelude.{◌≡◌, IfOk, IfSome, string_bytes};
 ghost use Rattle.manifests.specs.Located.{IsAtName, IsAtPart};
 
-use crate::key_locations::{Location, Locations};
+use crate::key_locations::{Location, SourceMap};
 use std::alloc::{AllocError, Global};
 use toml_spans::{Position, Span, part_of_name, spells};
 
@@ -62,7 +62,7 @@ fn at_part(
     }
 }
 
-impl Locations {
+impl SourceMap {
     /// Returns the place of a key of `target`, if it is known. Fails if an allocation fails.
     pub fn location_in_key(&self, alloc: Global, key: &str) -> Result<Option<Location>, AllocError>
         // The place lies in the text, and the text there spells the key.

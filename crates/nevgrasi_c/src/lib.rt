@@ -406,7 +406,7 @@ pub extern "C" fn nevgrasi_read_key(
     ensures span { result ≢ REFUSED → HasNoSpan outcome.new }
     ensures outcome { outcome.new.code ≡ result }
 {
-    *outcome = byte_answers::read_key(alloc, key, out);
+    *outcome = byte_answers::flatten_key(alloc, key, out);
     outcome.code
 }
 

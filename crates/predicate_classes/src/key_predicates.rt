@@ -11,7 +11,7 @@ ghost use Rattle.predicate_classes.specs.Classes.{flag_names, opened_by, is_cate
 use crate::classes::{Category, Class, class_of};
 use crate::rustc_names::name_in;
 use cargo_platform::Cfg;
-use manifests::Declared;
+use manifests::ExpectedCfgs;
 use std::alloc::{AllocError, Global};
 use std::collections::BTreeSet;
 use toml_spans::Span;
@@ -37,7 +37,7 @@ pub fn key_predicates<'a>(
     alloc: Global,
     values: &[&'a Cfg],
     spans: &[Span],
-    declared: &Declared<'_>,
+    declared: &ExpectedCfgs<'_>,
 ) -> Result<Vec<KeyPredicate<'a>>, AllocError>
     ensures { IfOk result (λ predicates. classified_by predicates.items
         ≡ map (λ c. classified_with_declarations (declarations_of declared.now) (value_of c.now)) values.now) }
@@ -60,7 +60,7 @@ fn key_predicate<'a>(
     fact: &'a Cfg,
     span: Option<Span>,
     is_first: bool,
-    declared: &Declared<'_>,
+    declared: &ExpectedCfgs<'_>,
 ) -> Result<KeyPredicate<'a>, AllocError>
     ensures { IfOk result (λ f. classified_of f ≡ classified_with_declarations (declarations_of declared.now) (value_of fact.now)) }
 {

@@ -112,7 +112,7 @@ fn matches_name(alloc: Global, text: &str, name: &str) -> Result<bool, AllocErro
     }
     match Pattern::from_str(alloc, text) {
         Ok(pattern) => pattern.matches(alloc, &names_of(alloc, name)?),
-        Err(PatternError::Fault(_)) => Ok(false),
+        Err(PatternError::GlobError(_)) => Ok(false),
         Err(PatternError::Memory(refused)) => Err(refused),
     }
 }
@@ -142,7 +142,7 @@ fn means(alloc: Global, text: &str, candidate: &Candidate) -> Result<bool, Alloc
 fn matches_above(alloc: Global, glob: &str, path: &str) -> Result<bool, AllocError> {
     let pattern = match Pattern::from_str(alloc, glob) {
         Ok(pattern) => pattern,
-        Err(PatternError::Fault(_)) => return Ok(false),
+        Err(PatternError::GlobError(_)) => return Ok(false),
         Err(PatternError::Memory(refused)) => return Err(refused),
     };
     let names = names_of(alloc, path)?;

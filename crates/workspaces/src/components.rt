@@ -3,7 +3,7 @@
 ghost use Rattle.std.specs.Prelude.{◌≡◌, ◌↔◌, IsTrue, IfOk};
 ghost use Rattle.workspaces.specs.Globs.{is_any, IsOne, is_folders, IsNamedBy, IsWithin, IsInWhere};
 
-use crate::glob_matching::{Piece, all_match};
+use crate::glob_matching::{Piece, matches_pieces};
 use std::alloc::{AllocError, Global};
 
 /// The characters from one to another, inclusive.
@@ -99,7 +99,7 @@ impl Piece<Vec<char>> for Component {
     fn matches(&self, alloc: Global, item: &Vec<char>) -> Result<bool, AllocError> {
         match self {
             Component::Folders => Ok(false),
-            Component::Named(parts) => all_match(alloc, parts, item),
+            Component::Named(parts) => matches_pieces(alloc, parts, item),
         }
     }
 }

@@ -86,7 +86,7 @@ pub fn first_mistyped_field(
 
 /// Returns the first field that a package adds to a dependency which it inherits and that has another type than Cargo
 /// expects, with the expected type.
-pub fn mistyped_beside(own: &Table) -> Option<(&'static str, &'static str)> {
+pub fn first_mistyped_addition(own: &Table) -> Option<(&'static str, &'static str)> {
     first_mistyped_field(own, &[], &ADDED_FLAGS)
 }
 
@@ -199,7 +199,7 @@ fn inherited(
     let Some(own) = value.as_table() else {
         return Ok(None);
     };
-    if !is_inherited(Some(own)) || mistyped_beside(own).is_some() {
+    if !is_inherited(Some(own)) || first_mistyped_addition(own).is_some() {
         return Ok(None);
     }
     if inheritance_error(name, own, Some(shared), is_of_2024).is_some() {

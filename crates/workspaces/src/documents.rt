@@ -1,6 +1,6 @@
 //! Manifests that are read and parsed once, however often they are needed.
 
-use crate::manifests::{if_successful, table_in, table_of, text_in};
+use crate::manifests::{if_successful, parse_table, table_in, text_in};
 use input_limits::{INPUT, read_file};
 use std::alloc::{AllocError, Global};
 use std::collections::BTreeMap;
@@ -125,7 +125,7 @@ impl ReadFile {
     ) -> Result<ReadFile, AllocError> {
         match if_successful(read_file(rt, file, limit))? {
             Some(text) => {
-                let table = table_of(rt.alloc(), text.as_str())?;
+                let table = parse_table(rt.alloc(), text.as_str())?;
                 ReadFile::of(rt.alloc(), text, table)
             }
             None => Ok(ReadFile::none()),

@@ -3,8 +3,8 @@
 use crate::choosing::choose;
 use crate::documents::{ManifestCache, RootPlace, real_path};
 use crate::manifests::{
-    MANIFEST, folder_of, from_above, if_successful, is_file, is_folder, join_manifest_path,
-    join_path, simplified_from, simplified_path, table_of,
+    MANIFEST, ancestor_path, folder_of, if_successful, is_file, is_folder, join_manifest_path,
+    join_path, parse_table, simplified_from, simplified_path,
 };
 use crate::members::members_of;
 use input_limits::{INPUT, InputError};
@@ -60,7 +60,7 @@ pub fn current_folder_depth<R: Env + AllocGlobal>(rt: &R) -> Result<usize, Alloc
 /// Returns the path of the manifest in the current folder or in the nearest folder above, if there is one.
 fn manifest_above<R: Files + Env + AllocGlobal>(rt: &R) -> Result<Option<String>, AllocError> {
     for count in 0..=current_folder_depth(rt)? {
-        let file = from_above(rt.alloc(), count, MANIFEST)?;
+        let file = ancestor_path(rt.alloc(), count, MANIFEST)?;
         if is_file(rt, file.as_str())? {
             return Ok(Some(file));
         }
@@ -88,7 +88,7 @@ pub fn put_text<R: Files + AllocGlobal>(
     text: String,
 ) -> Result<String, AllocError> {
     let file = file_of(rt, path)?;
-    let table = table_of(rt.alloc(), text.as_str())?;
+    let table = parse_table(rt.alloc(), text.as_str())?;
     documents.put(rt, file.as_str(), text, table)?;
     Ok(file)
 }
@@ -123,7 +123,7 @@ fn is_root<R: Files + AllocGlobal>(
 
 /// Returns the path of the manifest `count` folders above a folder.
 fn manifest_over(alloc: Global, folder: &str, count: usize) -> Result<String, AllocError> {
-    let file = from_above(alloc, count, MANIFEST)?;
+    let file = ancestor_path(alloc, count, MANIFEST)?;
     join_path(alloc, folder, file.as_str())
 }
 

@@ -92,9 +92,9 @@ fn add_item<T, P: Piece<T>>(
     Ok(())
 }
 
-/// Returns whether the items can be split into one stretch for each piece that this piece matches. Fails only if an
-/// allocation fails.
-pub fn all_match<T, P: Piece<T>>(
+/// Returns whether the pieces of a pattern, in their order, match all the items: the items can be divided into as many
+/// stretches, each of which its piece matches. Fails only if an allocation fails.
+pub fn matches_pieces<T, P: Piece<T>>(
     alloc: Global,
     pieces: &[P],
     items: &[T],

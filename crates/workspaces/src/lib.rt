@@ -21,17 +21,18 @@ mod patterns;
 
 pub use components::{CharacterRange, Characters, Component, Name, Part};
 pub use dependency_inheritance::{
-    first_mistyped_field, inheritance_error, inherits, is_of_2024, mistyped_beside, put_inherited,
+    first_mistyped_addition, first_mistyped_field, inheritance_error, inherits, is_of_2024,
+    put_inherited,
 };
 pub use documents::{Document, ManifestCache};
 pub use finding::{Found, ManifestSelection, current_folder_depth, find, put_text, root_of};
-pub use glob_matching::{Piece, all_match};
-pub use lint_inheritance::{Inheritable, inherits_lints};
+pub use glob_matching::{Piece, matches_pieces};
+pub use lint_inheritance::{InheritableFields, inherits_lints};
 pub use manifests::{
-    MANIFEST, folder_of, from_above, is_file, join_manifest_path, join_path, put, simplified_path,
-    table_in, table_of, text_in,
+    MANIFEST, ancestor_path, folder_of, is_file, join_manifest_path, join_path, parse_table, put,
+    simplified_path, table_in, text_in,
 };
 pub use member_rules::MemberRules;
 pub use patterns::{
-    Fault, Pattern, PatternError, is_glob, names_of, plain_components, some_matches,
+    GlobError, Pattern, PatternError, is_glob, names_of, plain_components, some_matches,
 };

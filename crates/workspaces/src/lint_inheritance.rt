@@ -14,7 +14,7 @@ const RUST_VERSION: &str = "rust-version";
 
 /// The values of a workspace's root that packages can inherit.
 #[derive(Drop)]
-pub struct Inheritable {
+pub struct InheritableFields {
     /// The value of `workspace.lints`.
     lints: Option<Value>,
     /// The value of `lints` of the root's own package.
@@ -41,10 +41,10 @@ fn workspace_rust_version(workspace: Option<&Table>) -> Option<&str> {
     text_in(table_in(workspace?, "package")?, RUST_VERSION)
 }
 
-impl Inheritable {
+impl InheritableFields {
     /// Returns what there is to inherit without a root.
-    pub fn none() -> Inheritable {
-        Inheritable {
+    pub fn none() -> InheritableFields {
+        InheritableFields {
             lints: None,
             own_lints: None,
             rust_version: None,
@@ -55,13 +55,13 @@ impl Inheritable {
     /// Returns what the manifest of a root has for packages to inherit.
     ///
     /// Fails only if an allocation fails.
-    pub fn of(alloc: Global, root: &Document) -> Result<Inheritable, AllocError> {
+    pub fn of(alloc: Global, root: &Document) -> Result<InheritableFields, AllocError> {
         let workspace = root.workspace();
         let rust_version = match workspace_rust_version(workspace) {
             Some(text) => Some(String::from_str(alloc, text)?),
             None => None,
         };
-        Ok(Inheritable {
+        Ok(InheritableFields {
             lints: field_of(workspace, LINTS)?,
             own_lints: field_of(root.table_with(LINTS), LINTS)?,
             rust_version,

@@ -37,7 +37,7 @@ pub fn join_manifest_path(alloc: Global, folder: &str, path: &str) -> Result<Str
 }
 
 /// Returns the path of a name in the folder that is `count` folders above the current one.
-pub fn from_above(alloc: Global, count: usize, path: &str) -> Result<String, AllocError> {
+pub fn ancestor_path(alloc: Global, count: usize, path: &str) -> Result<String, AllocError> {
     let mut text = String::new(alloc);
     for _ in 0..count {
         text.push_str("../")?;
@@ -92,7 +92,7 @@ fn push_component(path: &mut String, component: &str) -> Result<(), AllocError> 
 
 /// Returns the path of these components that begins so many folders above.
 fn joined_above(alloc: Global, count: usize, components: &[&str]) -> Result<String, AllocError> {
-    let mut path = from_above(alloc, count, "")?;
+    let mut path = ancestor_path(alloc, count, "")?;
     for component in components {
         push_component(&mut path, component)?;
     }
@@ -158,7 +158,7 @@ pub fn is_file<R: Files + AllocGlobal>(rt: &R, path: &str) -> Result<bool, Alloc
 }
 
 /// Returns the table of a TOML text, or `None` if the text is not TOML.
-pub fn table_of(alloc: Global, text: &str) -> Result<Option<Table>, AllocError>
+pub fn parse_table(alloc: Global, text: &str) -> Result<Option<Table>, AllocError>
     ensures { IfOk result (λ found. SpellsTable text.now (option_map table_view found)) }
 {
     match table_from_str(alloc, strip_byte_order_mark(text)) {

@@ -8,7 +8,7 @@ use crate::manifests::{
     folder_of, is_file, join_manifest_path, join_path, simplified_path, table_in, texts_in,
 };
 use crate::member_rules::MemberRules;
-use crate::patterns::{Fault, Pattern, PatternError, names_of};
+use crate::patterns::{GlobError, Pattern, PatternError, names_of};
 use cargo_platform::shown_text;
 use input_limits::InputError;
 use std::alloc::{AllocError, Global};
@@ -31,10 +31,10 @@ fn push_unusable(
 }
 
 /// Returns the message on a text of `members` that is no glob.
-fn fault_text(fault: Fault) -> &'static str {
+fn fault_text(fault: GlobError) -> &'static str {
     match fault {
-        Fault::Stars => "`**` has to be a whole component",
-        Fault::Bracket => "a `[` has no `]`",
+        GlobError::Stars => "`**` has to be a whole component",
+        GlobError::Bracket => "a `[` has no `]`",
     }
 }
 
@@ -82,7 +82,7 @@ fn globs_of(
         match Pattern::from_str(alloc, text) {
             Ok(pattern) => globs.push(pattern)?,
             Err(PatternError::Memory(refused)) => return Err(refused),
-            Err(PatternError::Fault(fault)) => {
+            Err(PatternError::GlobError(fault)) => {
                 let fault = fault_text(fault);
                 let reason = format!(in alloc; "workspace.members: {text}: {fault}")?;
                 push_unusable(unusable, alloc, file, reason.as_str())?;
@@ -215,7 +215,7 @@ impl Members {
         let alloc = rt.alloc();
         let pattern = match Pattern::from_str(alloc, text) {
             Ok(pattern) => pattern,
-            Err(PatternError::Fault(_)) => return Ok(()),
+            Err(PatternError::GlobError(_)) => return Ok(()),
             Err(PatternError::Memory(refused)) => return Err(refused),
         };
         let folders = candidates(rt, folder_of(file), text, &pattern)?;

@@ -4,7 +4,7 @@ ghost use Rattle.std.specs.Prelude.{◌↔◌, IsTrue, IfOk};
 ghost use Rattle.workspaces.specs.Members.{IsMatchedBy, IsMatchedBySome};
 
 use crate::components::{CharacterRange, Characters, Component, Name, Part};
-use crate::glob_matching::all_match;
+use crate::glob_matching::matches_pieces;
 use std::alloc::{AllocError, Global};
 
 /// A glob over the path of a folder, from the root of its workspace on.
@@ -15,7 +15,7 @@ pub struct Pattern {
 
 /// The reason why a text is not a glob.
 #[derive(Clone, Copy, Debug, PartialEq, Eq, Drop)]
-pub enum Fault {
+pub enum GlobError {
     /// Two or more `*` are adjacent, and are not `**` as a whole component.
     Stars,
     /// A `[` without its `]`.
@@ -25,7 +25,7 @@ pub enum Fault {
 /// The reason why a text has no pattern.
 #[derive(Drop)]
 pub enum PatternError {
-    Fault(Fault),
+    GlobError(GlobError),
     Memory(AllocError),
 }
 
@@ -136,7 +136,7 @@ fn read_bracket(alloc: Global, text: &[char]) -> Result<Bracketed, PatternError>
             });
         }
     }
-    Err(PatternError::Fault(Fault::Bracket))
+    Err(PatternError::GlobError(GlobError::Bracket))
 }
 
 /// Parses a component of a glob.
@@ -145,7 +145,7 @@ fn component_of(alloc: Global, text: &str) -> Result<Component, PatternError> {
         return Ok(Component::Folders);
     }
     if text.contains("**") {
-        return Err(PatternError::Fault(Fault::Stars));
+        return Err(PatternError::GlobError(GlobError::Stars));
     }
     let text: Vec<char> = text.chars().collect(alloc)?;
     let mut parts = Vec::new(alloc);
@@ -207,7 +207,7 @@ impl Pattern {
     pub fn matches(&self, alloc: Global, path: &[Vec<char>]) -> Result<bool, AllocError>
         ensures { IfOk result (λ b. IsTrue b ↔ IsMatchedBy self.now path.now) }
     {
-        all_match(alloc, &self.components, path)
+        matches_pieces(alloc, &self.components, path)
     }
 }
 

@@ -5,7 +5,7 @@ use Rattle.package_graphs.specs.Graphs.{is_in}
 use Rattle.package_graphs.specs.declared.sides.Side.TheVariants.{Target, Host}
 use Rattle.cargo_features.specs.Holding.{is_known, Holds}
 use Rattle.cargo_features.specs.Inside.Numbered.{number, AreNumbers}
-use Rattle.cargo_features.specs.declared.build.Build.{Build}
+use Rattle.cargo_features.specs.declared.build.BuildOptions.{BuildOptions}
 use Rattle.cargo_features.specs.declared.claims.Claim.{Claim}
 use Rattle.cargo_features.specs.declared.claims.Claim.TheVariants as claim
 use Rattle.cargo_features.specs.declared.packages.Package.{Package}
@@ -19,7 +19,7 @@ abbrev pub is_used : List Package → Numbered → ℕ → ℕ → Bool
 is_used packages found p k = has packages found (claim.Used p Target) k || has packages found (claim.Used p Host) k
 
 -- the sets contain, for each claim, the targets on which it holds
-pub record IsExact (build : Build) (packages : List Package) (found : Numbered) : Type 0 where
+pub record IsExact (build : BuildOptions) (packages : List Package) (found : Numbered) : Type 0 where
   pub numbers : AreNumbers packages found.numbers
   pub exact : (c : Claim) (k : ℕ) → is_known packages c ≡ true → k < COUNT
       → IsTrue (has packages found c k) ↔ Holds build packages k c

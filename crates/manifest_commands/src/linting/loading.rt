@@ -2,12 +2,12 @@
 
 use super::{LintRun, Source};
 use diagnostics::{
-    Diagnostic, EmittedDiagnostic, LintLevel, diagnostic_of_failure, diagnostic_of_key,
+    Diagnostic, DiagnosticLevel, EmittedDiagnostic, diagnostic_of_failure, diagnostic_of_key,
     diagnostic_of_syntax,
 };
 use key_answers::answer::Status;
 use manifest_answers::cargo_refuses::Rejected;
-use manifest_answers::deep::{DeepKey, first_deep};
+use manifest_answers::deep::{DeepKey, first_too_deep_key};
 use manifest_answers::normalizing::{NormalizedManifest, manifest_at, read_normalized};
 use manifests::reading::{Manifest, ReadError};
 use std::alloc::{AllocError, Global};
@@ -24,7 +24,7 @@ impl<'a> LintRun<'a> {
     ) -> Result<(), AllocError> {
         let reported = EmittedDiagnostic {
             diagnostic,
-            level: LintLevel::Error,
+            level: DiagnosticLevel::Error,
             path: source.path,
             text: source.text,
         };
@@ -35,7 +35,7 @@ impl<'a> LintRun<'a> {
             self.printed
                 .push(&mut self.answer.errors, alloc, &reported)?;
         }
-        self.counts.add(LintLevel::Error);
+        self.counts.add(DiagnosticLevel::Error);
         self.answer.raise(Status::Unusable);
         Ok(())
     }
@@ -65,7 +65,7 @@ fn usable(
     manifest: Manifest,
     run: &mut LintRun<'_>,
 ) -> Result<Option<Manifest>, AllocError> {
-    match first_deep(alloc, &manifest)? {
+    match first_too_deep_key(alloc, &manifest)? {
         Some(deep) => {
             report_deep(alloc, &manifest, deep, run)?;
             Ok(None)

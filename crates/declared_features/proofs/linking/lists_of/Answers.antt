@@ -1,5 +1,5 @@
 use Rattle.std.proofs.Common.{◌≡◌, ℕ, Option, List, ◌∷◌, [], length, subst, sym, ◌∙◌, ap}
-use Rattle.cargo_features.specs.declared.packages.Member.{Member}
+use Rattle.cargo_features.specs.declared.packages.FeatureValue.{FeatureValue}
 use Rattle.declared_features.specs.Edges.{name_at}
 use Rattle.declared_features.specs.Manifests.{features_in, features_at}
 use Rattle.declared_features.specs.Members.{SomeStandsFor, HasListsOf}
@@ -28,7 +28,7 @@ returns-clause-last c =
     let count : ℕ = length (features_at graph.declared.now lists.node) in
     let same : length features.items ≡ count =
     c.in_ok-features.ensures.count ∙ ap (λ (o : Option Manifest). length (features_in o)) c.manifest.ensures in
-    let Requested : List ℕ → ℕ → List Member → Type 0 =
+    let Requested : List ℕ → ℕ → List FeatureValue → Type 0 =
     λ name n ms. AreRequested requested name (index_in lists.names.now) lists.node lists.found.now n ms in
     last_pushed (is_concerned requested lists.node c.args.unit.now) (Requested (name_at graph lists.node) count) count
     features.items c.push.new.self.items members (sym c.concerns.ensures ∙ c.if-not-concerns.false) same

@@ -1,16 +1,16 @@
 use Rattle.std.proofs.Common.{◌≡◌, ◌⊎◌, inl, inr, ℕ, ◌+◌, ◌<◌, ◌∙◌, ap, sym, arith}
 use Rattle.std.proofs.lemmas.Bool.{cases_lt}
-use Rattle.cargo_features.specs.declared.packages.Member.{Member}
-use Rattle.cargo_features.specs.declared.packages.Member.TheVariants as member
+use Rattle.cargo_features.specs.declared.packages.FeatureValue.{FeatureValue}
+use Rattle.cargo_features.specs.declared.packages.FeatureValue.TheVariants as member
 use Rattle.declared_features.specs.Requested.{IsOneOfAll}
 use Rattle.declared_features.proofs.Collecting.{adds_push, adds_then, adds_as}
 use Rattle.declared_features.proofs.linking.push_all.Goals as goal
 
 -- one of the first features
-IsBelow : ℕ → Member → Type 0
+IsBelow : ℕ → FeatureValue → Type 0
 IsBelow n m = (i : ℕ) × (i < n) × (m ≡ member.Feature i)
 
-below_up : (n : ℕ) (m : Member) → IsBelow n m ⊎ (member.Feature n ≡ m) → IsBelow (n + 1) m
+below_up : (n : ℕ) (m : FeatureValue) → IsBelow n m ⊎ (member.Feature n ≡ m) → IsBelow (n + 1) m
 unfolding IsBelow
 below_up n m h =
     elim h [
@@ -18,7 +18,7 @@ below_up n m h =
       | inr same ↦ (n, omega arith, sym same)
     ]
 
-below_down : (n : ℕ) (m : Member) → IsBelow (n + 1) m → IsBelow n m ⊎ (member.Feature n ≡ m)
+below_down : (n : ℕ) (m : FeatureValue) → IsBelow (n + 1) m → IsBelow n m ⊎ (member.Feature n ≡ m)
 unfolding IsBelow
 below_down n m (i, below, is) =
     elim (cases_lt i n) [

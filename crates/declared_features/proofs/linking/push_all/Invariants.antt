@@ -1,5 +1,5 @@
 use Rattle.std.proofs.Common.{◌≡◌, ℕ, ◌<◌}
-use Rattle.cargo_features.specs.declared.packages.Member.TheVariants as member
+use Rattle.cargo_features.specs.declared.packages.FeatureValue.TheVariants as member
 use Rattle.declared_features.specs.Lists.{Adds}
 use Rattle.declared_features.proofs.linking.push_all.Given as goal
 

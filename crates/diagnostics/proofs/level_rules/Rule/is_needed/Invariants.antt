@@ -1,7 +1,7 @@
 use Rattle.std.proofs.Common.{ℕ, ◌≡◌, ◌≢◌, ◌<◌, get_or, option_map}
 use Rattle.manifest_lints_findings.specs.Codes.{lint_word}
 use Rattle.diagnostics.specs.declared.level_rules.Occurrence.{Occurrence}
-use Rattle.diagnostics.specs.declared.level_rules.LintLevel.TheVariants as level
+use Rattle.diagnostics.specs.declared.level_rules.DiagnosticLevel.TheVariants as level
 use Rattle.diagnostics.specs.LintLevels.{Hears}
 use Rattle.diagnostics.proofs.level_rules.Rule.is_needed.Given as goal
 

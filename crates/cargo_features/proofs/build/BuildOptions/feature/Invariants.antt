@@ -1,7 +1,7 @@
 use Rattle.std.proofs.Common.{◌≡◌, ◌++◌, take}
 use Rattle.std.specs.Prelude.{flat_map}
 use Rattle.cargo_features.specs.Steps.{member_steps}
-use Rattle.cargo_features.proofs.build.Build.feature.Given as goal
+use Rattle.cargo_features.proofs.build.BuildOptions.feature.Given as goal
 
 abbrev pub invariant-members : goal.invariant-members
 invariant-members l =

@@ -1,7 +1,7 @@
 use Rattle.std.proofs.Common.{◌≡◌, drop, map}
 use Rattle.cargo_platform.specs.Trees.{value_of}
 use Rattle.manifests.specs.Declarations.{is_declared, entry_in}
-use Rattle.manifests.proofs.declared.Declared.declares.Given as goal
+use Rattle.manifests.proofs.declared.ExpectedCfgs.declares.Given as goal
 
 -- the answer depends on the entries that are left
 abbrev pub invariant-entries : goal.invariant-entries

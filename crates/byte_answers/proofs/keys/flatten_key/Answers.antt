@@ -1,7 +1,7 @@
 use Rattle.std.proofs.Common.{rules}
 use Rattle.cargo_platform.specs.Trees.{condition_of}
 use Rattle.byte_answers.proofs.Texts.{texts_of_condition}
-use Rattle.byte_answers.proofs.keys.read_key.Goals as goal
+use Rattle.byte_answers.proofs.keys.flatten_key.Goals as goal
 
 pub returns-in-Ok-flatten-clause-done : goal.returns-in-Ok-flatten-clause-done
 returns-in-Ok-flatten-clause-done c = λ done.

@@ -1,6 +1,6 @@
 use Rattle.std.proofs.Common.{◌≡◌, ◌++◌, take}
 use Rattle.cargo_features.specs.Steps.{at_each, feature_steps}
-use Rattle.cargo_features.proofs.build.Build.features.Given as goal
+use Rattle.cargo_features.proofs.build.BuildOptions.features.Given as goal
 
 abbrev pub invariant-features : goal.invariant-features
 invariant-features l =

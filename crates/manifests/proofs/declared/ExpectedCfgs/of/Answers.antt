@@ -4,7 +4,7 @@ use Rattle.toml.specs.View.{view}
 use Rattle.toml.specs.declared.value.Value.{Value}
 use Rattle.manifests.specs.Declarations.{DeclareEach, each_none, AddsBy, entry_in}
 use Rattle.manifests.proofs.Texts.{one_value}
-use Rattle.manifests.proofs.declared.Declared.of.Goals as goal
+use Rattle.manifests.proofs.declared.ExpectedCfgs.of.Goals as goal
 
 pub values-init : goal.values-init
 values-init c = subst (DeclareEach []) (sym (ap (map entry_in) c.new-entries.ensures.items)) each_none

@@ -6,7 +6,7 @@ use Rattle.package_graphs.specs.Graphs.{is_in}
 use Rattle.package_graphs.specs.Inside.Spreading.{missing}
 use Rattle.cargo_features.specs.Inside.Working.{IsAsBefore, AreSound, IsApplied}
 use Rattle.cargo_features.specs.declared.rules.Rule.{Rule}
-use Rattle.cargo_features.proofs.derivation.derived.Given as goal
+use Rattle.cargo_features.proofs.derivation.derive_targets.Given as goal
 
 abbrev pub invariant-facts : goal.invariant-facts
 invariant-facts l = record {

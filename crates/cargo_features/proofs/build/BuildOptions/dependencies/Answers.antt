@@ -3,7 +3,7 @@ use Rattle.cargo_features.specs.Steps.{at_each, active_steps, used_steps}
 use Rattle.cargo_features.specs.declared.claims.Step.{Step}
 use Rattle.cargo_features.specs.declared.packages.Dependency.{Dependency}
 use Rattle.cargo_features.proofs.Each.{at_each_more}
-use Rattle.cargo_features.proofs.build.Build.dependencies.Goals as goal
+use Rattle.cargo_features.proofs.build.BuildOptions.dependencies.Goals as goal
 
 pub dependencies-preserved : goal.dependencies-preserved
 dependencies-preserved c =

@@ -1,7 +1,7 @@
 use Rattle.std.proofs.Common.{map, take}
 use Rattle.toml.specs.View.{items_view}
 use Rattle.manifests.specs.Declarations.{DeclareEach, strings, entry_in}
-use Rattle.manifests.proofs.declared.Declared.of.Given as goal
+use Rattle.manifests.proofs.declared.ExpectedCfgs.of.Given as goal
 
 -- what the values so far declare
 abbrev pub invariant-values : goal.invariant-values

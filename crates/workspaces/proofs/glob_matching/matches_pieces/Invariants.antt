@@ -1,6 +1,6 @@
 use Rattle.std.proofs.Common.{◌-◌, length, drop}
 use Rattle.workspaces.specs.Rows.{IsRow}
-use Rattle.workspaces.proofs.glob_matching.all_match.Given as goal
+use Rattle.workspaces.proofs.glob_matching.matches_pieces.Given as goal
 
 abbrev pub invariant-loop-k : goal.invariant-loop-k
 invariant-loop-k g l =

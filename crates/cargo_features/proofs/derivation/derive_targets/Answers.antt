@@ -12,7 +12,7 @@ use Rattle.cargo_features.specs.Deriving.{given}
 use Rattle.cargo_features.specs.Inside.Working.{IsAsBefore}
 use Rattle.cargo_features.specs.Inside.Listing.{place_lists, IsListed}
 use Rattle.cargo_features.proofs.Working.{in_tail, complete, applied_now, applied_listed, applied_all}
-use Rattle.cargo_features.proofs.derivation.derived.Goals as goal
+use Rattle.cargo_features.proofs.derivation.derive_targets.Goals as goal
 
 pub facts-init : goal.facts-init
 facts-init c =

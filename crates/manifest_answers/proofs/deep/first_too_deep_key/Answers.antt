@@ -4,7 +4,7 @@ use Rattle.manifests.specs.Entries.{entry_of}
 use Rattle.manifests.specs.Tables.{target_told}
 use Rattle.manifests.specs.declared.tables.TargetKey.{TargetKey}
 use Rattle.manifest_answers.specs.Deep.{HasNoDeepKey, IsShallowEntry}
-use Rattle.manifest_answers.proofs.deep.first_deep.Goals as goal
+use Rattle.manifest_answers.proofs.deep.first_too_deep_key.Goals as goal
 
 pub returns-in-Keys : goal.returns-in-Keys
 returns-in-Keys c =

@@ -1,6 +1,6 @@
 use Rattle.std.proofs.Common.{◌≡◌, ◌++◌, take}
 use Rattle.cargo_features.specs.Steps.{at_each, active_steps, used_steps}
-use Rattle.cargo_features.proofs.build.Build.dependencies.Given as goal
+use Rattle.cargo_features.proofs.build.BuildOptions.dependencies.Given as goal
 
 abbrev pub invariant-dependencies : goal.invariant-dependencies
 invariant-dependencies l =

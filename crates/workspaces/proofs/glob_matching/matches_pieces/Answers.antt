@@ -1,7 +1,7 @@
 use Rattle.std.proofs.Common.{◌∙◌, ap, sym, subst, ◌-◌, ◌∷◌, length, drop, List}
 use Rattle.workspaces.specs.Rows.{IsRow}
 use Rattle.workspaces.proofs.RowSteps.{last_pieces}
-use Rattle.workspaces.proofs.glob_matching.all_match.Goals as goal
+use Rattle.workspaces.proofs.glob_matching.matches_pieces.Goals as goal
 
 pub loop-k-preserved : goal.loop-k-preserved
 loop-k-preserved g c =
