@@ -67,7 +67,7 @@ gate_joined false p i from c = refl
 counts_more : (b is_root : Bool) (kind : Kind) (build other : BuildOptions) → build.with_dev ≡ b → other.with_dev ≡ true
     → counts_kind build is_root kind ≡ true → counts_kind other is_root kind ≡ true
 counts_more b is_root kinds.Normal build other same all h = refl
-counts_more b is_root kinds.BuildOptions build other same all h = refl
+counts_more b is_root kinds.Build build other same all h = refl
 counts_more b is_root kinds.Dev build other same all h =
     let parts = and_parts build.with_dev is_root h in
     and_from other.with_dev is_root all parts.1

@@ -44,7 +44,7 @@ feature_destination build packages from d = record {
 -- dev-dependencies are those of roots only
 abbrev pub counts_kind : BuildOptions → Bool → Kind → Bool
 counts_kind build is_root kinds.Normal = true
-counts_kind build is_root kinds.BuildOptions = true
+counts_kind build is_root kinds.Build = true
 counts_kind build is_root kinds.Dev = build.with_dev && is_root
 
 abbrev pub is_counted : BuildOptions → Package → Dependency → Bool

@@ -123,7 +123,7 @@ impl BuildOptions {
     {
         match dependency.kind {
             Kind::Normal => true,
-            Kind::BuildOptions => true,
+            Kind::Build => true,
             Kind::Dev => self.with_dev && unit.is_root,
         }
     }

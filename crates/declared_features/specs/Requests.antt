@@ -9,24 +9,24 @@ use Rattle.declared_features.specs.Rows.{kinds_at, links_at, AreRowsOf}
 use Rattle.declared_features.specs.declared.declaring.DeclaredGraph.{DeclaredGraph}
 use Rattle.declared_features.specs.declared.declaring.Row.{Row}
 use Rattle.declared_features.specs.declared.linking.Named.{Named}
-use Rattle.declared_features.specs.declared.manifests.ExpectedCfgs.{ExpectedCfgs}
+use Rattle.declared_features.specs.declared.manifests.Declared.{Declared}
 
 -- the name that the manifest gives the dependency
-abbrev pub toml_name : ExpectedCfgs → List ℕ
+abbrev pub toml_name : Declared → List ℕ
 toml_name declared = unwrap_or (option_copied declared.rename) declared.name.now
 
 -- the dependency uses `default`, which is at this index of its package
-pub record IsDefault (at : FeatureIndexes) (to : ℕ) (declared : ExpectedCfgs) (index : ℕ) : Type 0 where
+pub record IsDefault (at : FeatureIndexes) (to : ℕ) (declared : Declared) (index : ℕ) : Type 0 where
   pub uses : declared.uses_default ≡ true
   pub feature : at to (codes "default") ≡ Some index
 
 -- the dependency requests the feature at this index of its package: one that it lists, or `default`
-abbrev pub IsRequested : FeatureIndexes → ℕ → ExpectedCfgs → ℕ → Type 0
+abbrev pub IsRequested : FeatureIndexes → ℕ → Declared → ℕ → Type 0
 IsRequested at to declared index =
     Any (λ feature. at to feature.now ≡ Some index) declared.features.items ⊎ IsDefault at to declared index
 
 -- the dependency of a node's package, as it is declared, with its edge
-pub record IsNamedOf (at : FeatureIndexes) (node : ℕ) (row : Row) (declared : ExpectedCfgs) (found : Named) : Type 0 where
+pub record IsNamedOf (at : FeatureIndexes) (node : ℕ) (row : Row) (declared : Declared) (found : Named) : Type 0 where
   pub name : found.name.now ≡ toml_name declared
   pub to : found.dependency.to ≡ row.linked.to
   pub kind : found.dependency.kind ≡ row.linked.kind
@@ -37,8 +37,8 @@ pub record IsNamedOf (at : FeatureIndexes) (node : ℕ) (row : Row) (declared : 
   pub edge : found.edge ≡ row.index
 
 -- the edge is one of the rows, belongs to the dependency, and this is one of the declared ones
-pub record IsLink (graph : DeclaredGraph) (node : ℕ) (rows : List Row) (declared : List ExpectedCfgs)
-    (link : Row × ExpectedCfgs)
+pub record IsLink (graph : DeclaredGraph) (node : ℕ) (rows : List Row) (declared : List Declared)
+    (link : Row × Declared)
     : Type 0 where
   pub row_is : Contains rows link.0
   pub declared_is : Contains declared link.1

@@ -11,7 +11,7 @@ ghost use Rattle.declared_features.specs.Manifests.{index_of_id, package_index, 
 ghost use Rattle.declared_features.specs.Rows.{EdgeKind, kinds_by, kinds_at, links_at, AreRowsOf};
 ghost use Rattle.declared_features.specs.Edges.{AreSame, IsLike, IsOf, name_at, code_name};
 
-use crate::manifests::{DeclarationsError, ExpectedCfgs, Manifest, read_manifests};
+use crate::manifests::{DeclarationsError, Declared, Manifest, read_manifests};
 use cargo_metadata::graphs::Linked;
 use cargo_metadata::{Dependency as Edge, Indexes, KindRow, Metadata, Package};
 use package_graphs::Dependency as LinkedEdge;
@@ -134,7 +134,7 @@ impl<'a> Declarations<'a> {
     }
 
     /// Returns whether Cargo gives no edge to a declared dependency, since its package has no library.
-    pub fn has_no_library(&self, declared: &ExpectedCfgs<'a>) -> bool {
+    pub fn has_no_library(&self, declared: &Declared<'a>) -> bool {
         self.without_library
             .binary_search_by(|name| (*name).cmp(declared.name))
             .is_ok()
@@ -162,7 +162,7 @@ pub struct Row<'m, 'a> {
 
 impl<'m, 'a> Row<'m, 'a> {
     /// Returns whether the kind and the condition are those of a declared dependency.
-    fn is_like(&self, declared: &ExpectedCfgs<'a>) -> bool
+    fn is_like(&self, declared: &Declared<'a>) -> bool
         ensures { IsTrue result ↔ IsLike self.now declared.now }
     {
         declared.kind == self.kind.kind && declared.condition == self.kind.condition
@@ -261,7 +261,7 @@ impl<'m, 'a> DeclaredGraph<'m, 'a> {
     /// Returns whether a dependency of a node is a declared one: it has its kind and condition, leads to a package with
     /// the declared name, and has the name by which code refers to it. An edge from a package to itself has the
     /// library's name.
-    pub fn is_of(&self, node: usize, row: &Row<'_, 'a>, declared: &ExpectedCfgs<'a>) -> bool
+    pub fn is_of(&self, node: usize, row: &Row<'_, 'a>, declared: &Declared<'a>) -> bool
         // The result is true exactly if the edge has the kind and the condition of the declared dependency, leads to a
         // package of its name, and has the name that code uses: as the dependency is renamed, or else the library's
         // name, also in a package that depends on itself. `-` counts as `_`. An edge without a name may have any.
@@ -278,7 +278,7 @@ impl<'m, 'a> DeclaredGraph<'m, 'a> {
     }
 
     /// Returns the name by which the code of a node refers to a declared dependency on another one.
-    fn code_name(&self, node: usize, to: usize, declared: &ExpectedCfgs<'a>) -> &'a str
+    fn code_name(&self, node: usize, to: usize, declared: &Declared<'a>) -> &'a str
         ensures { result.now ≡ code_name self.now node to declared.now }
     {
         if node != to {

@@ -13,6 +13,6 @@ pub use declaring::{Declarations, DeclaredGraph, Row, rows_of};
 pub use entries::{FeatureEntry, entry_of};
 pub use linking::{Described, RequestedFeatures, described_features};
 pub use manifests::{
-    DeclarationsError, DependencyError, ExpectedCfgs, Feature, Manifest, ManifestError,
+    DeclarationsError, Declared, DependencyError, Feature, Manifest, ManifestError,
 };
 pub use missing_edges::{MissingEdge, first_filtered, first_missing_edge};

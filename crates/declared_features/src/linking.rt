@@ -15,7 +15,7 @@ ghost use Rattle.declared_features.specs.Inside.Names.{index_in, AreNamesOf};
 
 use crate::declaring::{Declarations, DeclaredGraph, Row, rows_of};
 use crate::entries::FeatureEntry;
-use crate::manifests::{ExpectedCfgs, Manifest};
+use crate::manifests::{Declared, Manifest};
 use crate::requested::activation_root;
 use cargo_features::{Dependency, FeatureValue, Package};
 use cargo_metadata::Indexes;
@@ -136,7 +136,7 @@ fn push_member(
 }
 
 /// Returns the index of the feature `default`, if a declared dependency uses that and the package has it.
-fn default_requested<'a>(names: &Names<'a>, to: usize, declared: &ExpectedCfgs<'a>) -> Option<usize>
+fn default_requested<'a>(names: &Names<'a>, to: usize, declared: &Declared<'a>) -> Option<usize>
     ensures { (index : ℕ) → (result ≡ Some index) ↔ IsDefault (index_in names.now) to declared.now index }
 {
     if !declared.uses_default {
@@ -150,7 +150,7 @@ fn features_requested<'a>(
     alloc: Global,
     names: &Names<'a>,
     to: usize,
-    declared: &ExpectedCfgs<'a>,
+    declared: &Declared<'a>,
 ) -> Result<Vec<usize>, AllocError>
     ensures { IfOk result (λ features. HasJust features.items (IsRequested (index_in names.now) to declared.now)) }
 {
@@ -164,7 +164,7 @@ fn features_requested<'a>(
 }
 
 /// Returns the name that a package's manifest gives a dependency.
-pub fn toml_name<'a>(declared: &ExpectedCfgs<'a>) -> &'a str
+pub fn toml_name<'a>(declared: &Declared<'a>) -> &'a str
     ensures { result.now ≡ toml_name declared.now }
 {
     declared.rename.unwrap_or(declared.name)
@@ -176,7 +176,7 @@ fn named_of<'a>(
     names: &Names<'a>,
     node: usize,
     row: &Row<'_, 'a>,
-    declared: &ExpectedCfgs<'a>,
+    declared: &Declared<'a>,
 ) -> Result<Named<'a>, AllocError>
     ensures { IfOk result (IsNamedOf (index_in names.now) node row.now declared.now) }
 {

@@ -1,9 +1,9 @@
-//! ExpectedCfgs dependencies that are on and have no edge. The document was filtered, or made with too few features.
+//! Declared dependencies that are on and have no edge. The document was filtered, or made with too few features.
 
 use crate::declaring::{Declarations, DeclaredGraph, rows_of};
 use crate::entries::FeatureEntry;
 use crate::linking::{RequestedFeatures, toml_name};
-use crate::manifests::{ExpectedCfgs, Manifest};
+use crate::manifests::{Declared, Manifest};
 use cargo_features::{Claim, Resolved};
 use cargo_metadata::{Dependency as Edge, Kind, Metadata};
 use package_graphs::Side;
@@ -15,14 +15,14 @@ use std::collections::BTreeSet;
 #[derive(Clone, Copy, Drop)]
 pub struct MissingEdge<'m, 'a> {
     pub node: usize,
-    pub declared: &'m ExpectedCfgs<'a>,
+    pub declared: &'m Declared<'a>,
 }
 
 /// The name of an edge's package, its condition and the number of its kind.
 type Key<'a> = ((&'a str, &'a str), u8);
 
 /// Returns the key of the edge of a declared dependency with a condition.
-fn key_of<'a>(declared: &ExpectedCfgs<'a>) -> Key<'a> {
+fn key_of<'a>(declared: &Declared<'a>) -> Key<'a> {
     let condition = declared.condition.unwrap_or("");
     ((declared.name, condition), declared.kind as u8)
 }
@@ -127,7 +127,7 @@ struct Kept<'m, 'a> {
 
 impl<'m, 'a> Kept<'m, 'a> {
     /// Returns whether a filter, and nothing else, may have left out a dependency. Only roots have dev-dependencies.
-    fn may_lack(&self, declared: &ExpectedCfgs<'a>, is_root: bool) -> bool {
+    fn may_lack(&self, declared: &Declared<'a>, is_root: bool) -> bool {
         let Some(condition) = declared.condition else {
             return false;
         };
@@ -153,7 +153,7 @@ impl<'m, 'a> Kept<'m, 'a> {
         graph: &DeclaredGraph<'m, 'a>,
         node: usize,
         manifest: &'m Manifest<'a>,
-    ) -> Result<Option<&'m ExpectedCfgs<'a>>, AllocError> {
+    ) -> Result<Option<&'m Declared<'a>>, AllocError> {
         let is_root = match graph.linked.packages.get(node) {
             Some(unit) => unit.is_root,
             None => false,
@@ -253,7 +253,7 @@ fn has_edge<'a>(
     alloc: Global,
     graph: &DeclaredGraph<'_, 'a>,
     node: usize,
-    declared: &ExpectedCfgs<'a>,
+    declared: &Declared<'a>,
 ) -> Result<bool, AllocError> {
     for row in &rows_of(alloc, graph.metadata, graph.linked, node)? {
         if graph.is_of(node, row, declared) {

@@ -1,6 +1,6 @@
 //! `--policy`: the arguments that a policy stands for, and its table of licences.
 
-use crate::query::{GraphArguments, Requested};
+use crate::query::{FeatureArguments, GraphArguments};
 use cargo_platform::{shown_start, shown_text};
 use diagnostics::DiagnosticLevel;
 use key_answers::answer::QueryError;
@@ -135,7 +135,7 @@ pub fn arguments_by_policy<'p>(
     });
     let given = arguments.requested;
     let requested = if given.features.is_empty() && !given.no_default && !given.all_features {
-        Requested {
+        FeatureArguments {
             resolver: given.resolver,
             features,
             no_default: graph.no_default_features,

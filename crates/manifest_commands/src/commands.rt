@@ -270,10 +270,10 @@ fn compare_answer(alloc: Global, matches: &ArgMatches<'_>) -> Result<Answer, Que
     let second = word(matches, "second");
     let budget = matches.get_one::<u64>("budget").unwrap_or(0);
     let mut answer = compare(alloc, first, second, budget, matches.get_flag("json"))?;
-    let hints = questions::unknown_words(alloc, first)?;
+    let hints = questions::unknown_name_warnings(alloc, first)?;
     answer.errors.push_str(hints.as_str())?;
     if second != first {
-        let hints = questions::unknown_words(alloc, second)?;
+        let hints = questions::unknown_name_warnings(alloc, second)?;
         answer.errors.push_str(hints.as_str())?;
     }
     Ok(answer)
