@@ -25,6 +25,21 @@ pub struct Goal<'a> {
     pub wanted: bool,
 }
 
+/// The members of a group, and the truth that is wanted of each member, or else of some member.
+#[derive(Clone, Copy)]
+struct Group<'a> {
+    members: &'a [CfgExpr],
+    each: bool,
+    wanted: bool,
+}
+
+/// The numbers of two pairs.
+#[derive(Clone, Copy)]
+struct PairNumbers {
+    one: usize,
+    other: usize,
+}
+
 /// The maximal nesting of groups. Each level takes some stack.
 const MOST_LEVELS: usize = 500;
 
@@ -64,8 +79,8 @@ pub fn pair_at<'a>(pairs: &[&'a Cfg], number: usize) -> &'a Cfg
     pairs[number]
 }
 
-/// Returns the truth, or its negation if `wanted` is false.
-pub fn as_wanted(truth: bool, wanted: bool) -> bool
+/// Returns whether the truth is the wanted one.
+pub fn matches_wanted(truth: bool, wanted: bool) -> bool
     ensures { result ≡ true_as_wanted wanted truth }
 {
     if wanted { truth } else { !truth }
@@ -121,7 +136,7 @@ fn are_two_values(c: &Cfg, other: &Cfg, single: &[&str]) -> bool
 }
 
 /// Returns the place of the sets over which a name or a pair has the wanted truth.
-fn value_made<K: Knowledge>(
+fn build_value<K: Knowledge>(
     query: &Query<'_, '_, K>,
     table: &mut Table,
     c: &Cfg,
@@ -134,7 +149,7 @@ fn value_made<K: Knowledge>(
         ≡ true_as_wanted wanted (contains s (pair_of (value_of c.now)))) }
 {
     match query.known.tells(c) {
-        Some(truth) => Ok(literal(as_wanted(truth, wanted))),
+        Some(truth) => Ok(literal(matches_wanted(truth, wanted))),
         None => match number_of(query.pairs, c) {
             Some(number) => table.pair(number, wanted),
             None => Err(DiagramError::TooLarge),
@@ -143,7 +158,7 @@ fn value_made<K: Knowledge>(
 }
 
 /// Returns the place of the sets, among those of a place, over which a name or a pair has the wanted truth.
-fn value_joined<K: Knowledge>(
+fn join_value<K: Knowledge>(
     query: &Query<'_, '_, K>,
     table: &mut Table,
     among: usize,
@@ -158,18 +173,17 @@ fn value_joined<K: Knowledge>(
         ≡ (says s query.now.pairs.now table.old among
         && true_as_wanted wanted (contains s (pair_of (value_of c.now))))) }
 {
-    let place = value_made(query, table, c, wanted)?;
+    let place = build_value(query, table, c, wanted)?;
     table.join(true, among, place)
 }
 
-/// Returns the place of the sets, among those of a place, over which an expression has the wanted truth.
-#[cycle(made)]
-fn made<K: Knowledge>(
+/// Returns the place of the sets, among those of a place, over which the goal is met.
+#[cycle(build)]
+fn build<K: Knowledge>(
     query: &Query<'_, '_, K>,
     table: &mut Table,
     among: usize,
-    e: &CfgExpr,
-    wanted: bool,
+    goal: Goal<'_>,
     levels: usize,
 ) -> Result<usize, DiagramError>
     requires table { IsTable (nodes_of table.old) table.old.joined.items }
@@ -178,20 +192,37 @@ fn made<K: Knowledge>(
     ensures means { IfOk result (λ place. (s : FactSet) → IsAsTold (K.told query.now.known.now) s
         → says s query.now.pairs.now table.new place
         ≡ (says s query.now.pairs.now table.old among
-        && true_as_wanted wanted (truth s (tree_of e.now)))) }
+        && true_as_wanted goal.entry.wanted (truth s (tree_of goal.entry.e.now)))) }
 {
     if levels == 0 {
         return Err(DiagramError::TooLarge);
     }
-    match e {
-        CfgExpr::Not(inner) => made(query, table, among, inner, !wanted, levels - 1),
+    let wanted = goal.wanted;
+    match goal.e {
+        CfgExpr::Not(inner) => {
+            let negated = Goal {
+                e: inner,
+                wanted: !wanted,
+            };
+            build(query, table, among, negated, levels - 1)
+        }
         CfgExpr::All(members) => {
-            group_made(query, table, among, members, wanted, wanted, levels - 1)
+            let group = Group {
+                members,
+                each: wanted,
+                wanted,
+            };
+            build_group(query, table, among, group, levels - 1)
         }
         CfgExpr::Any(members) => {
-            group_made(query, table, among, members, !wanted, wanted, levels - 1)
+            let group = Group {
+                members,
+                each: !wanted,
+                wanted,
+            };
+            build_group(query, table, among, group, levels - 1)
         }
-        CfgExpr::Value(c) => value_joined(query, table, among, c, wanted),
+        CfgExpr::Value(c) => join_value(query, table, among, c, wanted),
         CfgExpr::True => table.join(true, among, literal(wanted)),
         CfgExpr::False => table.join(true, among, literal(!wanted)),
     }
@@ -199,14 +230,12 @@ fn made<K: Knowledge>(
 
 /// Returns the place of the sets over which each member has the wanted truth, or else those over which one of them has
 /// it.
-#[cycle(made)]
-fn group_made<K: Knowledge>(
+#[cycle(build)]
+fn build_group<K: Knowledge>(
     query: &Query<'_, '_, K>,
     table: &mut Table,
     among: usize,
-    members: &[CfgExpr],
-    each: bool,
-    wanted: bool,
+    group: Group<'_>,
     levels: usize,
 ) -> Result<usize, DiagramError>
     requires table { IsTable (nodes_of table.old) table.old.joined.items }
@@ -215,24 +244,23 @@ fn group_made<K: Knowledge>(
     ensures means { IfOk result (λ place. (s : FactSet) → IsAsTold (K.told query.now.known.now) s
         → says s query.now.pairs.now table.new place
         ≡ (says s query.now.pairs.now table.old among
-        && group_wanted each wanted s (map tree_of members.now))) }
+        && group_wanted group.entry.each group.entry.wanted s (map tree_of group.entry.members.now))) }
 {
-    if each {
-        each_made(query, table, among, members, wanted, levels)
+    if group.each {
+        build_each(query, table, among, group, levels)
     } else {
-        let place = some_made(query, table, members, wanted, levels)?;
+        let place = build_some(query, table, group, levels)?;
         table.join(true, among, place)
     }
 }
 
 /// Returns the place of the sets over which each member has the wanted truth.
-#[cycle(made)]
-fn each_made<K: Knowledge>(
+#[cycle(build)]
+fn build_each<K: Knowledge>(
     query: &Query<'_, '_, K>,
     table: &mut Table,
     among: usize,
-    members: &[CfgExpr],
-    wanted: bool,
+    group: Group<'_>,
     levels: usize,
 ) -> Result<usize, DiagramError>
     requires table { IsTable (nodes_of table.old) table.old.joined.items }
@@ -241,12 +269,16 @@ fn each_made<K: Knowledge>(
     ensures means { IfOk result (λ place. (s : FactSet) → IsAsTold (K.told query.now.known.now) s
         → says s query.now.pairs.now table.new place
         ≡ (says s query.now.pairs.now table.old among
-        && each_wanted wanted s (map tree_of members.now))) }
+        && each_wanted group.entry.wanted s (map tree_of group.entry.members.now))) }
 {
     let mut place = among;
-    let mut left = members;
+    let mut left = group.members;
     'members: while let Some((e, others)) = left.split_first() {
-        let next = made(query, table, place, e, wanted, levels)?;
+        let member = Goal {
+            e,
+            wanted: group.wanted,
+        };
+        let next = build(query, table, place, member, levels)?;
         place = next;
         left = others;
     }
@@ -254,24 +286,27 @@ fn each_made<K: Knowledge>(
 }
 
 /// Returns the place of the sets over which some member has the wanted truth.
-#[cycle(made)]
-fn some_made<K: Knowledge>(
+#[cycle(build)]
+fn build_some<K: Knowledge>(
     query: &Query<'_, '_, K>,
     table: &mut Table,
-    members: &[CfgExpr],
-    wanted: bool,
+    group: Group<'_>,
     levels: usize,
 ) -> Result<usize, DiagramError>
     requires { IsTable (nodes_of table.old) table.old.joined.items }
     ensures made { IfOk result (IsMade table.old table.new) }
     ensures means { IfOk result (λ place. (s : FactSet) → IsAsTold (K.told query.now.known.now) s
         → says s query.now.pairs.now table.new place
-        ≡ some_wanted wanted s (map tree_of members.now)) }
+        ≡ some_wanted group.entry.wanted s (map tree_of group.entry.members.now)) }
 {
     let mut place = FALSE;
-    let mut left = members;
+    let mut left = group.members;
     'members: while let Some((e, others)) = left.split_first() {
-        let next = made(query, table, TRUE, e, wanted, levels)?;
+        let member = Goal {
+            e,
+            wanted: group.wanted,
+        };
+        let next = build(query, table, TRUE, member, levels)?;
         let both = table.join(false, place, next)?;
         place = both;
         left = others;
@@ -280,7 +315,7 @@ fn some_made<K: Knowledge>(
 }
 
 /// Returns the place of the sets, among those of a place, over which each goal is met.
-pub fn goals_made<K: Knowledge>(
+pub fn build_goals<K: Knowledge>(
     query: &Query<'_, '_, K>,
     table: &mut Table,
     among: usize,
@@ -296,7 +331,7 @@ pub fn goals_made<K: Knowledge>(
 {
     let mut place = among;
     for goal in goals {
-        let next = made(query, table, place, goal.e, goal.wanted, MOST_LEVELS)?;
+        let next = build(query, table, place, *goal, MOST_LEVELS)?;
         place = next;
     }
     Ok(place)
@@ -313,20 +348,15 @@ fn is_open<K: Knowledge>(query: &Query<'_, '_, K>, c: &Cfg) -> bool
 }
 
 /// Returns whether the pairs with these numbers are both open, and two values of a key that has one value.
-fn are_apart<K: Knowledge>(
-    query: &Query<'_, '_, K>,
-    single: &[&str],
-    one: usize,
-    other: usize,
-) -> bool
-    requires one { one < length query.now.pairs.now }
-    requires other { other < length query.now.pairs.now }
+fn are_apart<K: Knowledge>(query: &Query<'_, '_, K>, single: &[&str], numbers: PairNumbers) -> bool
+    requires one { numbers.one < length query.now.pairs.now }
+    requires other { numbers.other < length query.now.pairs.now }
     ensures { result ≡ true → (s : FactSet)
         → HasOneOpenValue (K.told query.now.known.now) (names_of single.now) s
-        → AreApart (holds_in s (pairs_of query.now.pairs.now)) one other }
+        → AreApart (holds_in s (pairs_of query.now.pairs.now)) numbers.one numbers.other }
 {
-    let first = pair_at(query.pairs, one);
-    let second = pair_at(query.pairs, other);
+    let first = pair_at(query.pairs, numbers.one);
+    let second = pair_at(query.pairs, numbers.other);
     let two = are_two_values(first, second, single);
     if two {
         let first_open = is_open(query, first);
@@ -337,29 +367,28 @@ fn are_apart<K: Knowledge>(
     }
 }
 
-/// Returns the place of the sets, among those of a place, without the other pair, if both are two values of a key that
-/// has one value.
+/// Returns the place of the sets, among those of a place, without the other of two pairs, if both are values of a key
+/// that has one value.
 fn without_other<K: Knowledge>(
     query: &Query<'_, '_, K>,
     table: &mut Table,
     among: usize,
     single: &[&str],
-    number: usize,
-    other: usize,
+    numbers: PairNumbers,
 ) -> Result<usize, DiagramError>
     requires table { IsTable (nodes_of table.old) table.old.joined.items }
     requires among { among < places (nodes_of table.old) }
-    requires number { number < length query.now.pairs.now }
-    requires other { other < length query.now.pairs.now }
+    requires one { numbers.one < length query.now.pairs.now }
+    requires other { numbers.other < length query.now.pairs.now }
     ensures made { IfOk result (IsMade table.old table.new) }
     ensures means { IfOk result (λ place. (s : FactSet)
         → HasOneOpenValue (K.told query.now.known.now) (names_of single.now) s
-        → holds_in s (pairs_of query.now.pairs.now) number ≡ true
+        → holds_in s (pairs_of query.now.pairs.now) numbers.one ≡ true
         → says s query.now.pairs.now table.new place
         ≡ says s query.now.pairs.now table.old among) }
 {
-    if are_apart(query, single, number, other) {
-        let place = table.pair(other, false)?;
+    if are_apart(query, single, numbers) {
+        let place = table.pair(numbers.other, false)?;
         table.join(true, among, place)
     } else {
         Ok(among)
@@ -386,7 +415,8 @@ fn no_later_value<K: Knowledge>(
     let mut other = query.pairs.len();
     'others: while other - 1 > number {
         other -= 1;
-        let next = without_other(query, table, place, single, number, other)?;
+        let numbers = PairNumbers { one: number, other };
+        let next = without_other(query, table, place, single, numbers)?;
         place = next;
     }
     Ok(place)

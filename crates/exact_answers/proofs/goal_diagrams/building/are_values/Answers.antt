@@ -1,7 +1,7 @@
 use Rattle.std.proofs.Common.{◌≡◌, true, not, string_bytes, bytes_eq}
 use Rattle.partial_facts.specs.Partly.{is_named, names_of}
 use Rattle.exact_answers.proofs.Pairs.{two_values}
-use Rattle.exact_answers.proofs.goal_diagrams.making.are_values.Goals as goal
+use Rattle.exact_answers.proofs.goal_diagrams.building.are_values.Goals as goal
 
 pub returns-then-one_key : goal.returns-then-one_key
 returns-then-one_key c = λ last.

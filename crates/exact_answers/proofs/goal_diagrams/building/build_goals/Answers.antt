@@ -2,7 +2,7 @@ use Rattle.std.proofs.Common.{◌≡◌, ◌∙◌, refl, sym, ap, ◌+◌, ◌�
 use Rattle.std.proofs.lemmas.List.{drop_more}
 use Rattle.exact_answers.proofs.Tables.{none-made, made-twice}
 use Rattle.exact_answers.proofs.Steps.{goals_on, goals_end}
-use Rattle.exact_answers.proofs.goal_diagrams.making.goals_made.Goals as goal
+use Rattle.exact_answers.proofs.goal_diagrams.building.build_goals.Goals as goal
 
 pub loop-goal-init : goal.loop-goal-init
 loop-goal-init g c =
@@ -19,7 +19,7 @@ loop-goal-preserved g c =
     let more : drop at gs ≡ item ∷ drop (at + 1) gs =
     drop_more gs at item c.loop-goal-test.true ∙ ap (λ x. x ∷ drop (at + 1) gs) (sym c.goal-item.is) in
     record {
-      made = made-twice c.args.table.now c.loop-goal.table c.made.new.table c.loop-goal.place c.in_ok-next.next
+      made = made-twice c.args.table.now c.loop-goal.table c.build.new.table c.loop-goal.place c.in_ok-next.next
           c.loop-goal.invariant.made c.in_ok-next.ensures.made;
       means = λ s told.
           goals_on s (drop at gs) (drop (at + 1) gs) item _ _ _ more (c.loop-goal.invariant.means s told)

@@ -3,7 +3,7 @@ use Rattle.cargo_platform.specs.Facts.{FactSet}
 use Rattle.exact_answers.specs.Diagrams.{IsMade}
 use Rattle.exact_answers.specs.Goals.{goals_met, IsAsTold}
 use Rattle.exact_answers.specs.Inside.Making.{says}
-use Rattle.exact_answers.proofs.goal_diagrams.making.goals_made.Given as goal
+use Rattle.exact_answers.proofs.goal_diagrams.building.build_goals.Given as goal
 
 -- the goals that are left say what is still to be joined
 abbrev pub invariant-loop-goal : goal.invariant-loop-goal

@@ -8,19 +8,19 @@ use Rattle.exact_answers.specs.Goals.{pairs_of, holds_in}
 use Rattle.exact_answers.proofs.Tables.{none-made, literal-inside}
 use Rattle.exact_answers.proofs.Pairs.{holds_at}
 use Rattle.exact_answers.proofs.Steps.{told-step}
-use Rattle.exact_answers.proofs.goal_diagrams.making.value_made.Goals as goal
+use Rattle.exact_answers.proofs.goal_diagrams.building.build_value.Goals as goal
 
 pub returns-in-Some-clause-made : goal.returns-in-Some-clause-made
 returns-in-Some-clause-made g c =
     let ns = nodes_of c.args.table.now in
     none-made c.args.table.now c.literal.result c.requires
-    (subst (λ x. x < places ns) (sym c.literal.ensures) (literal-inside ns c.as_wanted.result))
+    (subst (λ x. x < places ns) (sym c.literal.ensures) (literal-inside ns c.matches_wanted.result))
 
 pub returns-in-Some-clause-means : goal.returns-in-Some-clause-means
 returns-in-Some-clause-means g c = λ s told.
     let p = pair_of (value_of c.args.c.now) in
     told-step (g.K.Knowledge.told c.args.query.now.known.now) s c.args.query.now.pairs.now c.args.table.now p
-    c.literal.result c.args.wanted c.in-Some.truth c.as_wanted.result c.literal.ensures c.as_wanted.ensures
+    c.literal.result c.args.wanted c.in-Some.truth c.matches_wanted.result c.literal.ensures c.matches_wanted.ensures
     (sym c.tells.ensures ∙ c.in-Some.is) told
 
 pub returns-in-Some-number_of-clause-means : goal.returns-in-Some-number_of-clause-means

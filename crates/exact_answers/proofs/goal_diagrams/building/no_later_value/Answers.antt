@@ -2,7 +2,7 @@ use Rattle.std.proofs.Common.{◌∙◌, arith}
 use Rattle.exact_answers.specs.Diagrams.{nodes_of}
 use Rattle.exact_answers.specs.Goals.{pairs_of, holds_in}
 use Rattle.exact_answers.proofs.Tables.{none-made, made-twice, value-true}
-use Rattle.exact_answers.proofs.goal_diagrams.making.no_later_value.Goals as goal
+use Rattle.exact_answers.proofs.goal_diagrams.building.no_later_value.Goals as goal
 
 pub others-init : goal.others-init
 others-init g c =

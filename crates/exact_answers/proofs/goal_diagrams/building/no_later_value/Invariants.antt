@@ -4,7 +4,7 @@ use Rattle.partial_facts.specs.Partly.{names_of}
 use Rattle.exact_answers.specs.Goals.{HasOneOpenValue, pairs_of, holds_in}
 use Rattle.exact_answers.specs.Diagrams.{IsMade}
 use Rattle.exact_answers.specs.Inside.Making.{says}
-use Rattle.exact_answers.proofs.goal_diagrams.making.no_later_value.Given as goal
+use Rattle.exact_answers.proofs.goal_diagrams.building.no_later_value.Given as goal
 
 abbrev pub invariant-others : goal.invariant-others
 invariant-others g l = record {

@@ -3,7 +3,7 @@ use Rattle.std.specs.Ordering.{eq_by_cmp}
 use Rattle.cargo_platform.specs.Trees.{value_of}
 use Rattle.cargo_platform.specs.Facts.{pair_of, pair_cmp}
 use Rattle.exact_answers.proofs.Pairs.{number_found}
-use Rattle.exact_answers.proofs.goal_diagrams.making.number_of.Goals as goal
+use Rattle.exact_answers.proofs.goal_diagrams.building.number_of.Goals as goal
 
 pub returns-then-is_same : goal.returns-then-is_same
 returns-then-is_same c =

@@ -3,7 +3,7 @@ use Rattle.std.proofs.lemmas.Result.{IfOk-weaker}
 use Rattle.exact_answers.specs.Goals.{pairs_of, holds_in}
 use Rattle.exact_answers.proofs.Tables.{made-twice}
 use Rattle.exact_answers.proofs.Steps.{one-step}
-use Rattle.exact_answers.proofs.goal_diagrams.making.one_value.Goals as goal
+use Rattle.exact_answers.proofs.goal_diagrams.building.one_value.Goals as goal
 
 pub join-requires : goal.join-requires
 join-requires g c =

@@ -3,7 +3,7 @@ use Rattle.std.proofs.lemmas.Result.{IfOk-weaker}
 use Rattle.exact_answers.specs.Goals.{pairs_of, holds_in}
 use Rattle.exact_answers.proofs.Tables.{none-made, made-twice}
 use Rattle.exact_answers.proofs.Steps.{apart-step}
-use Rattle.exact_answers.proofs.goal_diagrams.making.without_other.Goals as goal
+use Rattle.exact_answers.proofs.goal_diagrams.building.without_other.Goals as goal
 
 pub join-requires : goal.join-requires
 join-requires g c =
@@ -26,7 +26,8 @@ returns-in_ok-place-clause-means g c =
     IfOk-weaker c.join.result _ _
     (λ both is s has holds.
     apart-step s c.args.query.now.pairs.now c.args.table.now c.pair.new.self c.join.new.self c.args.among
-    c.in_ok-place.place both c.args.number c.args.other (c.are_apart.ensures apart s has) holds c.requires.among
+    c.in_ok-place.place both c.args.numbers.one c.args.numbers.other
+    (c.are_apart.ensures apart s has) holds c.requires.among
     c.in_ok-place.ensures.made (c.in_ok-place.ensures.means (holds_in s (pairs_of c.args.query.now.pairs.now))) is)
     c.join.ensures.means
 
