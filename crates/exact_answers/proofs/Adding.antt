@@ -13,7 +13,7 @@ use Rattle.cargo_platform.specs.Trees.{Not, All, Any, Value, True, False, tree_o
 use Rattle.cargo_platform.specs.Facts.{Pair, FactSet, pair_of, truth}
 use Rattle.std.specs.FinSet.{contains}
 use Rattle.cargo_platform.specs.ExpressionSizes.{node_count, node_counts}
-use Rattle.exact_answers.specs.declared.goal_diagrams.making.Goal.{Goal}
+use Rattle.exact_answers.specs.declared.goal_diagrams.building.Goal.{Goal}
 use Rattle.exact_answers.specs.Goals.{true_as_wanted, StandsAt}
 use Rattle.exact_answers.specs.declared.outlook.Operation.{Operation}
 use Rattle.exact_answers.specs.declared.outlook.Operation.TheVariants as operation

@@ -15,7 +15,7 @@ use Rattle.cargo_platform.specs.Trees.{All as all_of, Any, tree_of, trees_of, va
 use Rattle.cargo_platform.specs.Facts.{FactSet, pair_of, truth}
 use Rattle.cargo_platform.specs.ExpressionSizes.{node_count}
 use Rattle.cargo_platform.specs.declared.cfg.CfgExpr.{CfgExpr}
-use Rattle.exact_answers.specs.declared.goal_diagrams.making.Goal.{Goal}
+use Rattle.exact_answers.specs.declared.goal_diagrams.building.Goal.{Goal}
 use Rattle.exact_answers.specs.Goals.{true_as_wanted, goals_met, IsAsTold}
 use Rattle.exact_answers.specs.declared.outlook.PairSets.{PairSets}
 use Rattle.exact_answers.specs.declared.outlook.Outlook.{Outlook}

@@ -7,7 +7,7 @@ use Rattle.cargo_platform.specs.Facts.{FactSet, pair_of, fact_set, truth}
 use Rattle.cargo_platform.specs.declared.cfg.CfgExpr.{CfgExpr}
 use Rattle.exact_answers.specs.Goals.{true_as_wanted, goals_met}
 use Rattle.exact_answers.specs.declared.fact_constraints.FactConstraints.{FactConstraints}
-use Rattle.exact_answers.specs.declared.goal_diagrams.making.Goal.{Goal}
+use Rattle.exact_answers.specs.declared.goal_diagrams.building.Goal.{Goal}
 use Rattle.exact_answers.specs.declared.search.Found.{Found}
 use Rattle.exact_answers.specs.declared.search.Found.TheVariants as found
 use Rattle.exact_answers.specs.Possible.{IsAllowed}

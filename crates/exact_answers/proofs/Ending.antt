@@ -6,7 +6,7 @@ use Rattle.std.specs.FinSet.{contains}
 use Rattle.cargo_platform.specs.Trees.{CfgValue, Trees}
 use Rattle.cargo_platform.specs.Facts.{Pair, FactSet, pair_of, fact_set}
 use Rattle.partial_facts.specs.Partly.{names_of, told_by}
-use Rattle.exact_answers.specs.declared.goal_diagrams.making.Goal.{Goal}
+use Rattle.exact_answers.specs.declared.goal_diagrams.building.Goal.{Goal}
 use Rattle.exact_answers.specs.declared.goal_diagrams.answers.Outcome.{Outcome}
 use Rattle.exact_answers.specs.declared.goal_diagrams.answers.Outcome.TheVariants as outcome
 use Rattle.exact_answers.specs.Goals.{goals_met, HasOneOpenValue, SaysOutcome, IsAsTold}

@@ -5,7 +5,7 @@ use Rattle.std.specs.FinSet.{contains, from_list}
 use Rattle.cargo_platform.specs.Trees.{CfgValue, tree_of, value_of}
 use Rattle.cargo_platform.specs.Facts.{pair_of, pair_cmp, fact_set, truth}
 use Rattle.exact_answers.specs.Goals.{true_as_wanted, goals_met}
-use Rattle.exact_answers.specs.declared.goal_diagrams.making.Goal.{Goal}
+use Rattle.exact_answers.specs.declared.goal_diagrams.building.Goal.{Goal}
 use Rattle.exact_answers.specs.declared.search.Found.{Found}
 use Rattle.exact_answers.specs.declared.search.Found.TheVariants as found
 use Rattle.exact_answers.specs.Asking.{asks, some_asks}

@@ -8,7 +8,7 @@ use Rattle.cargo_platform.specs.declared.cfg.Cfg.{Cfg}
 use Rattle.cargo_platform.specs.Trees.{tree_of}
 use Rattle.cargo_platform.specs.Facts.{Pair, FactSet}
 use Rattle.std.specs.FinSet.{contains}
-use Rattle.exact_answers.specs.declared.goal_diagrams.making.Goal.{Goal}
+use Rattle.exact_answers.specs.declared.goal_diagrams.building.Goal.{Goal}
 use Rattle.exact_answers.specs.declared.goal_diagrams.table.Table.{Table}
 use Rattle.exact_answers.specs.Goals.{goals_met, true_as_wanted, IsAsTold}
 use Rattle.exact_answers.specs.Diagrams.{joint, value, nodes_of, places, Grows, IsMade}

@@ -8,7 +8,7 @@ use Rattle.cargo_platform.specs.Trees.{tree_of, value_of}
 use Rattle.cargo_platform.specs.Facts.{Pair, FactSet, pair_of, truth}
 use Rattle.partial_facts.specs.OneValued.{is_single}
 use Rattle.exact_answers.specs.Diagrams.{Agrees}
-use Rattle.exact_answers.specs.declared.goal_diagrams.making.Goal.{Goal}
+use Rattle.exact_answers.specs.declared.goal_diagrams.building.Goal.{Goal}
 use Rattle.exact_answers.specs.declared.goal_diagrams.answers.Outcome.{Outcome}
 use Rattle.exact_answers.specs.declared.goal_diagrams.answers.Outcome.TheVariants as outcome
 

@@ -8,7 +8,7 @@ ghost use Rattle.exact_answers.specs.Inside.Paths.{base_of};
 ghost use Rattle.exact_answers.specs.Inside.Searches.{Searched, IsMetBy};
 
 use crate::fact_constraints::FactConstraints;
-use crate::goal_diagrams::{Goal, as_wanted};
+use crate::goal_diagrams::{Goal, matches_wanted};
 use crate::path::Path;
 use crate::search::{Found, search};
 use cargo_platform::{Cfg, CfgExpr};
@@ -22,7 +22,7 @@ fn is_met(goal: &Goal<'_>, facts: &[Cfg]) -> bool
     ensures { result ≡ true_as_wanted goal.now.wanted
         (truth (fact_set (map value_of facts.now)) (tree_of goal.now.e.now)) }
 {
-    as_wanted(goal.e.matches(facts), goal.wanted)
+    matches_wanted(goal.e.matches(facts), goal.wanted)
 }
 
 /// Returns the result of a search for other goals, if it is the result with this goal too: the goal is met over the

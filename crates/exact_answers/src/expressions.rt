@@ -120,7 +120,7 @@ pub fn implies<'a>(
         (λ s. (truth s (tree_of a.now) ≡ true) × (truth s (tree_of b.now) ≡ false))
         (λ s. truth s (tree_of a.now) ≡ true → truth s (tree_of b.now) ≡ true)) }
 {
-    match search_both(alloc, a, true, b, false, known, budget)? {
+    match search_counterexample(alloc, a, b, known, budget)? {
         Found::Facts(facts) => Ok(MustHold::No(facts)),
         Found::Nothing => Ok(MustHold::Yes),
         Found::Undecided => Ok(MustHold::Undecided),
@@ -144,7 +144,9 @@ pub fn exclude<'a>(
         (λ s. (truth s (tree_of a.now) ≡ true) × (truth s (tree_of b.now) ≡ true))
         (λ s. truth s (tree_of a.now) ≡ true → truth s (tree_of b.now) ≡ false)) }
 {
-    match search_both(alloc, a, true, b, true, known, budget)? {
+    let first = Goal { e: a, wanted: true };
+    let second = Goal { e: b, wanted: true };
+    match search_both(alloc, first, second, known, budget)? {
         Found::Facts(facts) => Ok(MustHold::No(facts)),
         Found::Nothing => Ok(MustHold::Yes),
         Found::Undecided => Ok(MustHold::Undecided),
@@ -170,14 +172,14 @@ pub fn equivalent<'a>(
         (λ s. truth s (tree_of a.now) ≡ not (truth s (tree_of b.now)))
         (λ s. truth s (tree_of a.now) ≡ truth s (tree_of b.now))) }
 {
-    match search_both(alloc, a, true, b, false, known, budget)? {
+    match search_counterexample(alloc, a, b, known, budget)? {
         Found::Facts(facts) => Ok(MustHold::No(facts)),
-        Found::Nothing => match search_both(alloc, b, true, a, false, known, budget)? {
+        Found::Nothing => match search_counterexample(alloc, b, a, known, budget)? {
             Found::Facts(facts) => Ok(MustHold::No(facts)),
             Found::Nothing => Ok(MustHold::Yes),
             Found::Undecided => Ok(MustHold::Undecided),
         },
-        Found::Undecided => match search_both(alloc, b, true, a, false, known, budget)? {
+        Found::Undecided => match search_counterexample(alloc, b, a, known, budget)? {
             Found::Facts(facts) => Ok(MustHold::No(facts)),
             Found::Nothing | Found::Undecided => Ok(MustHold::Undecided),
         },
@@ -222,33 +224,48 @@ fn search_one<'a>(
     search_assuming(alloc, &goals, known, budget)
 }
 
-/// Searches for a possible set of facts over which both expressions have the truths that are wanted.
-pub fn search_both<'a>(
+/// Searches for a possible set of facts over which `a` is true and `b` is false.
+fn search_counterexample<'a>(
     alloc: Global,
     a: &'a CfgExpr,
-    a_wanted: bool,
     b: &'a CfgExpr,
-    b_wanted: bool,
     known: &'a FactConstraints<'a>,
     budget: u64,
 ) -> Result<Found, AllocError>
     ensures { IfOk result (λ r. SaysFound r known.now (tree (tree_of a.now) (tree (tree_of b.now) none)) budget
-        (λ s. (truth s (tree_of a.now) ≡ a_wanted) × (truth s (tree_of b.now) ≡ b_wanted))
-        (λ s. truth s (tree_of a.now) ≡ a_wanted → truth s (tree_of b.now) ≡ not b_wanted)) }
+        (λ s. (truth s (tree_of a.now) ≡ true) × (truth s (tree_of b.now) ≡ false))
+        (λ s. truth s (tree_of a.now) ≡ true → truth s (tree_of b.now) ≡ true)) }
+{
+    let first = Goal { e: a, wanted: true };
+    let second = Goal {
+        e: b,
+        wanted: false,
+    };
+    search_both(alloc, first, second, known, budget)
+}
+
+/// Searches for a possible set of facts over which both goals are met.
+pub fn search_both<'a>(
+    alloc: Global,
+    first: Goal<'a>,
+    second: Goal<'a>,
+    known: &'a FactConstraints<'a>,
+    budget: u64,
+) -> Result<Found, AllocError>
+    ensures { IfOk result (λ r.
+        SaysFound r known.now (tree (tree_of first.entry.e.now) (tree (tree_of second.entry.e.now) none)) budget
+        (λ s. (truth s (tree_of first.entry.e.now) ≡ first.entry.wanted)
+        × (truth s (tree_of second.entry.e.now) ≡ second.entry.wanted))
+        (λ s. truth s (tree_of first.entry.e.now) ≡ first.entry.wanted
+        → truth s (tree_of second.entry.e.now) ≡ not second.entry.wanted)) }
 {
     let goals = [
         Goal {
             e: known.assumed,
             wanted: true,
         },
-        Goal {
-            e: a,
-            wanted: a_wanted,
-        },
-        Goal {
-            e: b,
-            wanted: b_wanted,
-        },
+        first,
+        second,
     ];
     search_assuming(alloc, &goals, known, budget)
 }

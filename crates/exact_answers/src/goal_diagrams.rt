@@ -2,9 +2,9 @@
 //! splits pair by pair takes long if subproblems repeat; here each is solved once.
 
 mod answers;
-mod making;
+mod building;
 mod table;
 
 pub use answers::{Outcome, find_choices};
-pub use making::{Goal, as_wanted, is_same};
+pub use building::{Goal, is_same, matches_wanted};
 pub use table::Choice;

@@ -10,6 +10,7 @@ ghost use Rattle.exact_answers.specs.Inside.Targets.{with_name, or_undecided, as
 
 use crate::expressions::search_both;
 use crate::fact_constraints::FactConstraints;
+use crate::goal_diagrams::Goal;
 use crate::search::Found;
 use cargo_platform::{Cfg, CfgExpr, Platform};
 use std::alloc::{AllocError, Global};
@@ -365,15 +366,15 @@ fn search_under(
 {
     let yes = CfgExpr::True;
     let no = CfgExpr::False;
-    search_both(
-        alloc,
-        under(question.first, name, &yes, &no),
-        question.first_wanted,
-        under(question.second, name, &yes, &no),
-        question.second_wanted,
-        question.known,
-        budget,
-    )
+    let first = Goal {
+        e: under(question.first, name, &yes, &no),
+        wanted: question.first_wanted,
+    };
+    let second = Goal {
+        e: under(question.second, name, &yes, &no),
+        wanted: question.second_wanted,
+    };
+    search_both(alloc, first, second, question.known, budget)
 }
 
 /// Returns the condition on the facts of a target with this name, or for `None` with a name that is in no condition.

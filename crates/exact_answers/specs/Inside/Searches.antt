@@ -15,7 +15,7 @@ use Rattle.exact_answers.specs.Asking.{some_asks, one_if, HasAll, NeedsMore}
 use Rattle.exact_answers.specs.Answers.{IsUnmarked, IsFactOfExample}
 use Rattle.exact_answers.specs.declared.fact_constraints.FactConstraints.{FactConstraints}
 use Rattle.exact_answers.specs.declared.path.Path.{Path}
-use Rattle.exact_answers.specs.declared.goal_diagrams.making.Goal.{Goal}
+use Rattle.exact_answers.specs.declared.goal_diagrams.building.Goal.{Goal}
 use Rattle.exact_answers.specs.declared.diagram.End.{End}
 use Rattle.exact_answers.specs.declared.diagram.End.TheVariants as end
 use Rattle.exact_answers.specs.declared.search.Found.{Found}

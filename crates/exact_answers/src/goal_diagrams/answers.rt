@@ -9,7 +9,7 @@ ghost use Rattle.exact_answers.specs.Diagrams.{nodes_of, places, AreEarlier, IsT
 ghost use Rattle.exact_answers.specs.Goals.{goals_met, HasOneOpenValue, pairs_of, SaysOutcome, IsAsTold};
 ghost use Rattle.exact_answers.specs.Inside.Making.{says};
 
-use crate::goal_diagrams::making::{Goal, Query, goals_made, single_values};
+use crate::goal_diagrams::building::{Goal, Query, build_goals, single_values};
 use crate::goal_diagrams::table::{Choice, DiagramError, Table};
 use cargo_platform::Cfg;
 use partial_facts::Knowledge;
@@ -28,8 +28,8 @@ pub enum Outcome {
     TooLarge,
 }
 
-/// Returns the result if no diagram is made.
-fn unmade(stop: DiagramError) -> Result<Outcome, AllocError>
+/// Returns the result if no diagram could be built.
+fn without_diagram(stop: DiagramError) -> Result<Outcome, AllocError>
     ensures { IfOk result (λ r. r ≡ Outcome.TooLarge) }
 {
     match stop {
@@ -39,7 +39,7 @@ fn unmade(stop: DiagramError) -> Result<Outcome, AllocError>
 }
 
 /// Returns the place of the sets over which each goal is met and no key in `single` has two values.
-fn all_made<K: Knowledge>(
+fn build_all<K: Knowledge>(
     query: &Query<'_, '_, K>,
     table: &mut Table,
     goals: &[Goal<'_>],
@@ -52,11 +52,11 @@ fn all_made<K: Knowledge>(
         → says s query.now.pairs.now table.new place ≡ goals_met s goals.now) }
 {
     let among = single_values(query, table, single)?;
-    goals_made(query, table, among, goals)
+    build_goals(query, table, among, goals)
 }
 
 /// Returns choices that lead from this place to what is true.
-fn way_from(alloc: Global, table: &Table, place: usize) -> Result<Outcome, AllocError>
+fn choices_from(alloc: Global, table: &Table, place: usize) -> Result<Outcome, AllocError>
     requires table { AreEarlier (nodes_of table.now) }
     requires place { place < places (nodes_of table.now) }
     ensures { IfOk result (λ r. (s : FactSet) (cs : List (Bor Cfg))
@@ -65,8 +65,8 @@ fn way_from(alloc: Global, table: &Table, place: usize) -> Result<Outcome, Alloc
     if place == 0 {
         return Ok(Outcome::Nothing);
     }
-    let way = table.satisfying_choices(alloc, place)?;
-    Ok(Outcome::Way(way))
+    let choices = table.satisfying_choices(alloc, place)?;
+    Ok(Outcome::Way(choices))
 }
 
 /// Returns whether each goal can be met, by a diagram whose nodes test these pairs, in this order. A set of facts is
@@ -87,8 +87,8 @@ pub fn find_choices<K: Knowledge>(
 {
     let mut table = Table::new(alloc, most_nodes)?;
     let query = Query { known, pairs };
-    match all_made(&query, &mut table, goals, single) {
-        Ok(place) => way_from(alloc, &table, place),
-        Err(stop) => unmade(stop),
+    match build_all(&query, &mut table, goals, single) {
+        Ok(place) => choices_from(alloc, &table, place),
+        Err(stop) => without_diagram(stop),
     }
 }

@@ -4,7 +4,7 @@ use Rattle.std.proofs.lemmas.Result.{IfOk-weaker}
 use Rattle.cargo_platform.specs.Trees.{none}
 use Rattle.exact_answers.specs.Inside.Paths.{base_of}
 use Rattle.exact_answers.specs.Inside.Searches.{Searched}
-use Rattle.exact_answers.specs.declared.goal_diagrams.making.Goal.{Goal}
+use Rattle.exact_answers.specs.declared.goal_diagrams.building.Goal.{Goal}
 use Rattle.exact_answers.proofs.Answering.{any_says}
 use Rattle.exact_answers.proofs.Spending.{needs_more_by}
 use Rattle.exact_answers.proofs.expressions.search_any.Goals as goal

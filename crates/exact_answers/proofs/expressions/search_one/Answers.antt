@@ -1,7 +1,7 @@
 use Rattle.std.proofs.Common.{refl, true, List, [], ◌∷◌}
 use Rattle.std.proofs.lemmas.Result.{IfOk-weaker}
 use Rattle.cargo_platform.specs.Trees.{tree_of, tree, none}
-use Rattle.exact_answers.specs.declared.goal_diagrams.making.Goal.{Goal}
+use Rattle.exact_answers.specs.declared.goal_diagrams.building.Goal.{Goal}
 use Rattle.exact_answers.proofs.Answering.{one_says}
 use Rattle.exact_answers.proofs.Spending.{needs_more_by}
 use Rattle.exact_answers.proofs.expressions.search_one.Goals as goal
