@@ -7,7 +7,7 @@ use crate::sides::{BySide, is_selected};
 use cargo_metadata::graphs::Linked;
 use cargo_metadata::{Metadata, Package as Described};
 use known_targets::TargetSet;
-use package_graphs::{Dependency, PackageSets, Side, present_packages};
+use package_graphs::{Dependency, PackageQuery, PackageSets, Side, present_packages};
 use std::alloc::{AllocError, Global};
 
 /// A dependency graph, with the targets on which each package is in the build.
@@ -117,11 +117,13 @@ impl<'a> Graph<'a> {
         if let Some(features) = &self.features {
             return features.resolution.using_to(index, place, side);
         }
-        let packages = &self.linked.packages;
+        let followed = PackageQuery {
+            packages: &self.linked.packages,
+            kinds: query.kinds,
+            host: query.host,
+        };
         match self.dependency(index, place) {
-            Some(dependency) => {
-                self.sets.following_to(packages, query.kinds, query.host, index, &dependency, side)
-            }
+            Some(dependency) => self.sets.following_to(followed, index, &dependency, side),
             None => TargetSet::none(),
         }
     }

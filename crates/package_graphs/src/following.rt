@@ -13,74 +13,93 @@ use crate::sides::Side;
 use crate::two_sided_graph::TraversalQuery;
 use known_targets::{KnownTarget, TargetSet};
 
+/// What `present_packages` was called with.
+#[derive(Clone, Copy)]
+pub struct PackageQuery<'a> {
+    pub packages: &'a [Package],
+    pub kinds: Kinds,
+    pub host: Option<KnownTarget>,
+}
+
+/// The package to which a dependency has to lead: whether it is a procedural macro, and the side for which it is built.
+#[derive(Clone, Copy)]
+struct Destination {
+    is_macro: bool,
+    side: Side,
+}
+
 impl PackageSets {
     /// Returns the targets on which a dependency of the package at index `from` is followed: the package is in the
-    /// build, and the condition of the dependency is true. `packages`, `kinds` and `host` are those of
-    /// `present_packages`.
+    /// build, and the condition of the dependency is true. `query` has the arguments with which `present_packages`
+    /// returned these sets.
     pub fn following(
         &self,
-        packages: &[Package],
-        kinds: Kinds,
-        host: Option<KnownTarget>,
+        query: PackageQuery<'_>,
         from: usize,
         dependency: &Dependency,
     ) -> TargetSet
         // A target is in the set exactly if the package is in the build for a side, and from there the dependency is
         // followed and its condition is true.
         ensures { (k : ℕ) → k < COUNT → IsTrue (is_member result k)
-            ↔ IsFollowedAt self.now packages.now kinds host from dependency.now k }
+            ↔ IsFollowedAt self.now query.entry.packages.now query.entry.kinds query.entry.host from dependency.now k }
     {
-        if !kinds.follow(is_root(packages, from), dependency.kind) {
+        if !query
+            .kinds
+            .follow(is_root(query.packages, from), dependency.kind)
+        {
             return TargetSet::none();
         }
-        let traversal = TraversalQuery::new(kinds, host);
+        let traversal = TraversalQuery::new(query.kinds, query.host);
         let target = self.along(&traversal, from, Side::Target, dependency);
         target.union(self.along(&traversal, from, Side::Host, dependency))
     }
 
     /// Returns the targets on which a dependency of the package at index `from` is followed to a package that is built
-    /// for the side `to`. `packages`, `kinds` and `host` are those of `present_packages`.
+    /// for the side `to`. `query` has the arguments with which `present_packages` returned these sets.
     pub fn following_to(
         &self,
-        packages: &[Package],
-        kinds: Kinds,
-        host: Option<KnownTarget>,
+        query: PackageQuery<'_>,
         from: usize,
         dependency: &Dependency,
         to: Side,
     ) -> TargetSet
         // A target is in the set exactly if the dependency is followed on it, and leads to a package for the side.
         ensures { (k : ℕ) → k < COUNT → IsTrue (is_member result k)
-            ↔ IsFollowedTo self.now packages.now kinds host from dependency.now to k }
+            ↔ IsFollowedTo self.now query.entry.packages.now query.entry.kinds query.entry.host from dependency.now to k }
     {
-        if !kinds.follow(is_root(packages, from), dependency.kind) {
+        if !query
+            .kinds
+            .follow(is_root(query.packages, from), dependency.kind)
+        {
             return TargetSet::none();
         }
-        let traversal = TraversalQuery::new(kinds, host);
-        let is_macro = is_macro(packages, dependency.to);
-        let target = self.along_to(&traversal, from, Side::Target, dependency, is_macro, to);
-        target.union(self.along_to(&traversal, from, Side::Host, dependency, is_macro, to))
+        let traversal = TraversalQuery::new(query.kinds, query.host);
+        let is_macro = is_macro(query.packages, dependency.to);
+        let to = Destination { is_macro, side: to };
+        let target = self.along_to(&traversal, (from, Side::Target), dependency, to);
+        target.union(self.along_to(&traversal, (from, Side::Host), dependency, to))
     }
 
-    /// Returns the targets on which the package is in the build for the side `on`, and the condition of the dependency
-    /// is true from there. There are none if the dependency leads from that side to a package for another one than
-    /// `to`.
+    /// Returns the targets on which a package is in the build for a side, and the condition of the dependency is true
+    /// from there. `from` is the index of the package and the side. There are none if the dependency leads from that
+    /// side to a package for another side than that of `to`.
     fn along_to(
         &self,
         traversal: &TraversalQuery,
-        from: usize,
-        on: Side,
+        from: (usize, Side),
         dependency: &Dependency,
-        is_macro: bool,
-        to: Side,
+        to: Destination,
     ) -> TargetSet
         requires { IsTraversalQuery traversal.now }
         ensures { (k : ℕ) → k < COUNT → is_member result k
-            ≡ (is_same (side_after on dependency.now.kind is_macro) to && (is_on self.now from on k
-            && is_member dependency.now.holds (evaluated_at traversal.now.host k on dependency.now.kind))) }
+            ≡ (is_same (side_after from.1 dependency.now.kind to.is_macro) to.side
+            && (is_on self.now from.0 from.1 k
+            && is_member dependency.now.holds (evaluated_at traversal.now.host k from.1 dependency.now.kind))) }
     {
-        if on.after(dependency.kind, is_macro).is_same(to) {
-            self.along(traversal, from, on, dependency)
+        let (package, side) = from;
+        let leads = side.after(dependency.kind, to.is_macro).is_same(to.side);
+        if leads {
+            self.along(traversal, package, side, dependency)
         } else {
             TargetSet::none()
         }

@@ -12,6 +12,7 @@ mod queue;
 mod sides;
 mod two_sided_graph;
 
+pub use following::PackageQuery;
 pub use graph::{Edge, Graph};
 pub use package_sets::{PackageSets, present_packages};
 pub use packages::{Dependency, Kind, Kinds, Package};

@@ -11,14 +11,15 @@ use Rattle.package_graphs.proofs.package_sets.PackageSets.following_to.Goals as 
 pub returns : goal.returns
 returns c k below =
     let sets = c.args.self.now in
-    let packages = c.args.packages.now in
+    let query = c.args.query in
+    let packages = query.packages.now in
     let d = c.args.dependency.now in
     let by : Option KnownTarget → Bool → Side → Bool =
     λ host is_macro on. leads_with sets host is_macro c.args.from d c.args.to k on in
     let host = c.new-traversal.result.host in
     let is_it = c.is_macro-is_macro.result in
     let e : is_member c.union.result k
-    ≡ (by c.args.host (is_macro packages d.to) Target || by c.args.host (is_macro packages d.to) Host) =
+    ≡ (by query.host (is_macro packages d.to) Target || by query.host (is_macro packages d.to) Host) =
     c.union.ensures k below
     ∙ ap (λ (b : Bool). b || is_member c.along_to.result k) (c.along_to-target.ensures k below)
     ∙ ap (λ (b : Bool). by host is_it Target || b) (c.along_to.ensures k below)
@@ -26,8 +27,8 @@ returns c k below =
     ∙ ap (λ (h : Option KnownTarget). by h (is_macro packages d.to) Target || by h (is_macro packages d.to) Host)
     c.new-traversal.ensures.host in
     let followed =
-    ap (λ (root : Bool). is_followed c.args.kinds root d.kind) (sym c.is_root.ensures)
+    ap (λ (root : Bool). is_followed query.kinds root d.kind) (sym c.is_root.ensures)
     ∙ sym c.follow.ensures ∙ c.if-not-follow.false in (
-      λ h. to_either sets packages c.args.kinds c.args.host c.args.from d c.args.to k followed (sym e ∙ h),
-      λ h. e ∙ from_to sets packages c.args.kinds c.args.host c.args.from d c.args.to k h,
+      λ h. to_either sets packages query.kinds query.host c.args.from d c.args.to k followed (sym e ∙ h),
+      λ h. e ∙ from_to sets packages query.kinds query.host c.args.from d c.args.to k h,
     )
