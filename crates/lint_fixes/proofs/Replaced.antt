@@ -7,7 +7,7 @@ use Rattle.std.specs.List.{filter, list_all, list_any}
 use Rattle.input_limits.specs.Marks.{IsUnmarked, byte_order_mark}
 use Rattle.toml.specs.Data.{Members}
 use Rattle.toml.specs.Parse.{parse_document}
-use Rattle.workspaces.specs.ManifestCache.{SpellsTable}
+use Rattle.workspaces.specs.Documents.{SpellsTable}
 use Rattle.lint_fixes.specs.Fixing.{HasNoneOf, finds_key, is_replaced}
 use Rattle.lint_fixes.specs.declared.fixing.Fix.{Fix}
 

@@ -6,7 +6,7 @@ use Rattle.std.specs.declared.alloc.Global.{Global}
 use Rattle.toml.specs.Data.{Members}
 use Rattle.toml.specs.View.{table_view}
 use Rattle.text_edits.specs.Edits.{Edited}
-use Rattle.workspaces.specs.ManifestCache.{SpellsTable}
+use Rattle.workspaces.specs.Documents.{SpellsTable}
 use Rattle.lint_fixes.specs.Names.{IsRename}
 use Rattle.lint_fixes.specs.Sameness.{IsSameManifest, Renaming, allowed_count, has_key}
 use Rattle.lint_fixes.specs.declared.fixing.Fix.{Fix}

@@ -1,4 +1,4 @@
-pub mod ManifestCache
+pub mod Documents
 pub mod Stretches
 pub mod Rows
 pub mod Globs

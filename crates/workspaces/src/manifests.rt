@@ -3,7 +3,7 @@
 ghost use Rattle.std.specs.Prelude.{IfOk};
 ghost use Rattle.std.specs.Option.{option_map};
 ghost use Rattle.toml.specs.View.{table_view};
-ghost use Rattle.workspaces.specs.ManifestCache.{SpellsTable};
+ghost use Rattle.workspaces.specs.Documents.{SpellsTable};
 
 use crate::patterns::plain_components;
 use input_limits::strip_byte_order_mark;

@@ -1,7 +1,7 @@
 use Rattle.std.proofs.Common.{◌≡◌, Some, true, option_map, string_bytes, sym, ◌∙◌, subst}
 use Rattle.std.specs.List.{list_all}
 use Rattle.toml.specs.View.{table_view}
-use Rattle.workspaces.specs.ManifestCache.{SpellsTable}
+use Rattle.workspaces.specs.Documents.{SpellsTable}
 use Rattle.lint_fixes.specs.Fixing.{IsFixOf, is_replaced}
 use Rattle.lint_fixes.proofs.Replaced.{filled, none_finds, nothing_chosen}
 use Rattle.lint_fixes.proofs.fixing.fixed_text.Goals as goal
