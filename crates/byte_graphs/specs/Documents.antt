@@ -9,8 +9,8 @@ use Rattle.cargo_metadata.specs.declared.metadata.Metadata.{Metadata}
 use Rattle.cargo_metadata.specs.declared.nodes.Node.{Node}
 use Rattle.cargo_metadata.specs.declared.nodes.Dependency.{Dependency}
 use Rattle.cargo_metadata.specs.declared.nodes.KindRow.{KindRow}
-use Rattle.cargo_metadata.specs.declared.refusals.Refusal.{Refusal}
-use Rattle.cargo_metadata.specs.declared.graphs.refusals.Refusal.{Refusal as Unlinked}
+use Rattle.cargo_metadata.specs.declared.refusals.MetadataError.{MetadataError}
+use Rattle.cargo_metadata.specs.declared.graphs.refusals.GraphError.{GraphError}
 use Rattle.cargo_metadata.specs.declared.graphs.linking.Linked.{Linked}
 use Rattle.cargo_metadata.specs.Documents.{IsMetadata, IsRefused, is_memory}
 use Rattle.cargo_metadata.specs.Links.{IsLinked}
@@ -47,12 +47,12 @@ IsDeepData d = (m : Metadata) × (IsMetadata d m × HasDeepCondition m)
 
 -- it does not have what a graph needs, for a reason other than a lack of memory
 abbrev pub IsNoMetadata : Data → Type 0
-IsNoMetadata d = (r : Refusal) × (IsRefused d r × (is_memory r ≡ false))
+IsNoMetadata d = (r : MetadataError) × (IsRefused d r × (is_memory r ≡ false))
 
 -- no condition is too deep, and ids or conditions form no graph, for a reason other than a lack of memory
 abbrev pub IsNoGraph : Data → Type 0
 IsNoGraph d =
-    (m : Metadata) × (r : Unlinked)
+    (m : Metadata) × (r : GraphError)
     × (IsMetadata d m × (HasDeepCondition m → ⊥) × IsUnlinked m r × (is_memory_of_graph r ≡ false))
 
 abbrev pub IsUnusableData : Data → Type 0
