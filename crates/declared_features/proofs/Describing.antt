@@ -20,11 +20,11 @@ use Rattle.declared_features.specs.Inside.Names.{AreNamesOf, AreNamesBelow}
 use Rattle.declared_features.specs.Inside.Links.{IsLinkBelow}
 use Rattle.declared_features.specs.declared.declaring.Declarations.{Declarations}
 use Rattle.declared_features.specs.declared.declaring.DeclaredGraph.{DeclaredGraph}
-use Rattle.declared_features.specs.declared.declaring.Row.{Row}
+use Rattle.declared_features.specs.declared.declaring.DependencyRow.{DependencyRow}
 use Rattle.declared_features.specs.declared.entries.FeatureEntry.{FeatureEntry}
 use Rattle.declared_features.specs.declared.linking.Names.{Names}
 use Rattle.declared_features.specs.declared.linking.RequestedFeatures.{RequestedFeatures}
-use Rattle.declared_features.specs.declared.manifests.Declared.{Declared}
+use Rattle.declared_features.specs.declared.manifests.DeclaredDependency.{DeclaredDependency}
 use Rattle.declared_features.specs.declared.manifests.Feature.{Feature}
 use Rattle.cargo_metadata.specs.declared.indexes.Indexes.{Indexes}
 use Rattle.declared_features.proofs.Collecting.{some_same}
@@ -95,11 +95,11 @@ names_all declarations n names past below node q =
 
 -- ---- links of edges to declared dependencies
 
-abbrev pair_of : Row → Declared → Row × Declared
+abbrev pair_of : DependencyRow → DeclaredDependency → DependencyRow × DeclaredDependency
 pair_of row declared = (row, declared)
 
-pub link_first : (graph : DeclaredGraph) (node : ℕ) (rows : List Row) (i : ℕ) (declared : List Declared)
-    (link : Row × Declared) → IsLinkBelow graph node rows i declared 0 link
+pub link_first : (graph : DeclaredGraph) (node : ℕ) (rows : List DependencyRow) (i : ℕ) (declared : List DeclaredDependency)
+    (link : DependencyRow × DeclaredDependency) → IsLinkBelow graph node rows i declared 0 link
     → IsLink graph node (take i rows) declared link
 link_first graph node rows i declared link below =
     elim below [
@@ -108,9 +108,9 @@ link_first graph node rows i declared link below =
     ]
 
 -- one more declared dependency, to which the edge belongs
-pub link_more : (graph : DeclaredGraph) (node : ℕ) (rows : List Row) (i : ℕ) (row : Row) (declared : List Declared)
+pub link_more : (graph : DeclaredGraph) (node : ℕ) (rows : List DependencyRow) (i : ℕ) (row : DependencyRow) (declared : List DeclaredDependency)
     (j : ℕ)
-    (d : Declared) → slice_get rows i ≡ Some row → slice_get declared j ≡ Some d → (link : Row × Declared)
+    (d : DeclaredDependency) → slice_get rows i ≡ Some row → slice_get declared j ≡ Some d → (link : DependencyRow × DeclaredDependency)
     → IsLinkBelow graph node rows i declared (j + 1) link
     → IsLinkBelow graph node rows i declared j link ⊎ (((row, d) ≡ link) × IsOf graph node row d)
 link_more graph node rows i row declared j d row_at d_at (r, e) below =
@@ -123,17 +123,17 @@ link_more graph node rows i row declared j d row_at d_at (r, e) below =
             | inr last ↦
                 let same : row ≡ r = some_same row r (sym row_at ∙ at.row_is) in
                 let pair : pair_of row d ≡ pair_of r e =
-                ap (λ (x : Row). pair_of x d) same ∙ ap (λ (y : Declared). pair_of r y) last in
+                ap (λ (x : DependencyRow). pair_of x d) same ∙ ap (λ (y : DeclaredDependency). pair_of r y) last in
                 inr (
                   pair,
-                  subst (λ (x : Row). IsOf graph node x d) (sym same)
-                      (subst (λ (x : Declared). IsOf graph node r x) (sym last) at.belongs),
+                  subst (λ (x : DependencyRow). IsOf graph node x d) (sym same)
+                      (subst (λ (x : DeclaredDependency). IsOf graph node r x) (sym last) at.belongs),
                 )
           ]
     ]
 
-pub link_before : (graph : DeclaredGraph) (node : ℕ) (rows : List Row) (i : ℕ) (declared : List Declared) (j : ℕ)
-    (d : Declared) → slice_get declared j ≡ Some d → (link : Row × Declared)
+pub link_before : (graph : DeclaredGraph) (node : ℕ) (rows : List DependencyRow) (i : ℕ) (declared : List DeclaredDependency) (j : ℕ)
+    (d : DeclaredDependency) → slice_get declared j ≡ Some d → (link : DependencyRow × DeclaredDependency)
     → IsLinkBelow graph node rows i declared j link → IsLinkBelow graph node rows i declared (j + 1) link
 link_before graph node rows i declared j d d_at link below =
     elim below [
@@ -145,18 +145,18 @@ link_before graph node rows i declared j d d_at link below =
       })
     ]
 
-pub link_here : (graph : DeclaredGraph) (node : ℕ) (rows : List Row) (i : ℕ) (row : Row) (declared : List Declared)
+pub link_here : (graph : DeclaredGraph) (node : ℕ) (rows : List DependencyRow) (i : ℕ) (row : DependencyRow) (declared : List DeclaredDependency)
     (j : ℕ)
-    (d : Declared) → slice_get rows i ≡ Some row → slice_get declared j ≡ Some d → IsOf graph node row d
-    → (link : Row × Declared) → (row, d) ≡ link → IsLinkBelow graph node rows i declared (j + 1) link
+    (d : DeclaredDependency) → slice_get rows i ≡ Some row → slice_get declared j ≡ Some d → IsOf graph node row d
+    → (link : DependencyRow × DeclaredDependency) → (row, d) ≡ link → IsLinkBelow graph node rows i declared (j + 1) link
 link_here graph node rows i row declared j d row_at d_at belongs link same =
-    subst (λ (l : Row × Declared). IsLinkBelow graph node rows i declared (j + 1) l) same
+    subst (λ (l : DependencyRow × DeclaredDependency). IsLinkBelow graph node rows i declared (j + 1) l) same
     (inr (record { row_is = row_at; declared_is = taken_here declared j d d_at; belongs = belongs }))
 
 -- all declared dependencies of one more row
-pub link_row : (graph : DeclaredGraph) (node : ℕ) (rows : List Row) (i : ℕ) (row : Row) (declared : List Declared)
+pub link_row : (graph : DeclaredGraph) (node : ℕ) (rows : List DependencyRow) (i : ℕ) (row : DependencyRow) (declared : List DeclaredDependency)
     (j : ℕ)
-    → slice_get rows i ≡ Some row → length declared ≤ j → (link : Row × Declared)
+    → slice_get rows i ≡ Some row → length declared ≤ j → (link : DependencyRow × DeclaredDependency)
     → IsLinkBelow graph node rows i declared j link → IsLink graph node (take (i + 1) rows) declared link
 link_row graph node rows i row declared j row_at past link below =
     elim below [
@@ -168,22 +168,22 @@ link_row graph node rows i row declared j row_at past link below =
       | inr at ↦ record {
         row_is = taken_here rows i link.0 at.row_is;
         declared_is =
-            subst (λ (l : List Declared). Contains l link.1) (take_all j declared past) at.declared_is;
+            subst (λ (l : List DeclaredDependency). Contains l link.1) (take_all j declared past) at.declared_is;
         belongs = at.belongs;
       }
     ]
 
-pub row_link : (graph : DeclaredGraph) (node : ℕ) (rows : List Row) (i : ℕ) (row : Row) (declared : List Declared)
+pub row_link : (graph : DeclaredGraph) (node : ℕ) (rows : List DependencyRow) (i : ℕ) (row : DependencyRow) (declared : List DeclaredDependency)
     (j : ℕ)
-    → slice_get rows i ≡ Some row → length declared ≤ j → (link : Row × Declared)
+    → slice_get rows i ≡ Some row → length declared ≤ j → (link : DependencyRow × DeclaredDependency)
     → IsLink graph node (take (i + 1) rows) declared link → IsLinkBelow graph node rows i declared j link
 row_link graph node rows i row declared j row_at past link is =
     elim (taken rows i row link.0 row_at is.row_is) [
       | inl before ↦ inl (record { row_is = before; declared_is = is.declared_is; belongs = is.belongs })
       | inr here ↦ inr (record {
-        row_is = row_at ∙ ap (λ (r : Row). Some r) here;
+        row_is = row_at ∙ ap (λ (r : DependencyRow). Some r) here;
         declared_is =
-            subst (λ (l : List Declared). Contains l link.1) (sym (take_all j declared past)) is.declared_is;
+            subst (λ (l : List DeclaredDependency). Contains l link.1) (sym (take_all j declared past)) is.declared_is;
         belongs = is.belongs;
       })
     ]

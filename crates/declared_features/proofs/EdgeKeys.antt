@@ -23,8 +23,8 @@ use Rattle.declared_features.specs.MissingEdges.{IsEdgeAt, HasEdge, HasSimilarEd
 use Rattle.declared_features.specs.Inside.Keys.{EdgeKey, StoredKey, kind_number, key_cmp, HasKey, IsKeyOf, AddsKeys}
 use Rattle.declared_features.specs.Inside.Keys.{HasEdgeWith}
 use Rattle.declared_features.specs.declared.declaring.DeclaredGraph.{DeclaredGraph}
-use Rattle.declared_features.specs.declared.declaring.Row.{Row}
-use Rattle.declared_features.specs.declared.manifests.Declared.{Declared}
+use Rattle.declared_features.specs.declared.declaring.DependencyRow.{DependencyRow}
+use Rattle.declared_features.specs.declared.manifests.DeclaredDependency.{DeclaredDependency}
 use Rattle.declared_features.proofs.Collecting.{some_same}
 use Rattle.declared_features.proofs.First.{any_at}
 use Rattle.declared_features.proofs.Growing.{by_test}
@@ -105,19 +105,19 @@ pub kind_of_pair : (e f : EdgeKind) → e ≡ f → (e.0 ≡ f.0) × (e.1 ≡ f.
 kind_of_pair e f is = (ap (λ (p : EdgeKind). p.0) is, ap (λ (p : EdgeKind). p.1) is)
 
 -- this depends on the edge, the kind and the link of a row alone
-abbrev pub Moves : (Row → Type 0) → Type 0
+abbrev pub Moves : (DependencyRow → Type 0) → Type 0
 Moves P =
-    (row other : Row) → row.edge.now ≡ other.edge.now → row.kind ≡ other.kind → row.linked ≡ other.linked → P row
+    (row other : DependencyRow) → row.edge.now ≡ other.edge.now → row.kind ≡ other.kind → row.linked ≡ other.linked → P row
     → P other
 
-pub edge_of_row : (graph : DeclaredGraph) (node : ℕ) (rows : List Row) (k : ℕ) (row : Row)
+pub edge_of_row : (graph : DeclaredGraph) (node : ℕ) (rows : List DependencyRow) (k : ℕ) (row : DependencyRow)
     → AreRowsOf (kinds_at graph.metadata.now node) (links_at graph.linked.now node) rows → k < length rows
     → row ≡ get_or rows k row → IsEdgeAt graph node row
 edge_of_row graph node rows k row are below is =
-    (k, are.each k row (slice_get-get_or rows k row below ∙ ap (λ (r : Row). Some r) (sym is)))
+    (k, are.each k row (slice_get-get_or rows k row below ∙ ap (λ (r : DependencyRow). Some r) (sym is)))
 
-pub row_of_edge : (graph : DeclaredGraph) (node : ℕ) (rows : List Row) (P : Row → Type 0) → Moves P
-    → AreRowsOf (kinds_at graph.metadata.now node) (links_at graph.linked.now node) rows → (row : Row)
+pub row_of_edge : (graph : DeclaredGraph) (node : ℕ) (rows : List DependencyRow) (P : DependencyRow → Type 0) → Moves P
+    → AreRowsOf (kinds_at graph.metadata.now node) (links_at graph.linked.now node) rows → (row : DependencyRow)
     → IsEdgeAt graph node row → P row → Any P rows
 row_of_edge graph node rows P moves are row (k, is) such =
     let kinds = kinds_at graph.metadata.now node in
@@ -139,7 +139,7 @@ key_moves graph key row other edge kind link such = record {
   kind = subst (λ (r : KindRow). r.kind ≡ key.1) kind such.kind;
 }
 
-pub edge_moves : (graph : DeclaredGraph) (node : ℕ) (declared : Declared) → Moves (λ row. IsOf graph node row declared)
+pub edge_moves : (graph : DeclaredGraph) (node : ℕ) (declared : DeclaredDependency) → Moves (λ row. IsOf graph node row declared)
 edge_moves graph node declared row other edge kind link such = record {
   alike = record {
     kind = subst (λ (r : KindRow). r.kind ≡ declared.kind) kind such.alike.kind;
@@ -152,7 +152,7 @@ edge_moves graph node declared row other edge kind link such = record {
       (subst (λ (l : LinkedEdge). MayBeCalled row.edge.now.name (code_name graph node l.to declared)) link such.code);
 }
 
-pub keys_of_rows : (graph : DeclaredGraph) (node : ℕ) (rows : List Row) (key : EdgeKey)
+pub keys_of_rows : (graph : DeclaredGraph) (node : ℕ) (rows : List DependencyRow) (key : EdgeKey)
     → AreRowsOf (kinds_at graph.metadata.now node) (links_at graph.linked.now node) rows
     → Any (λ row. IsKeyOf graph row key) rows ↔ HasEdgeWith graph node key
 keys_of_rows graph node rows key are = (
@@ -164,7 +164,7 @@ keys_of_rows graph node rows key are = (
 )
 
 -- the key is that of a declared dependency with a condition
-pub similar : (graph : DeclaredGraph) (node : ℕ) (declared : Declared) (condition : List ℕ)
+pub similar : (graph : DeclaredGraph) (node : ℕ) (declared : DeclaredDependency) (condition : List ℕ)
     → option_copied declared.condition ≡ Some condition
     → HasEdgeWith graph node ((declared.name.now, condition), declared.kind) ↔ HasSimilarEdge graph node declared
 similar graph node declared condition is = (

@@ -20,7 +20,7 @@ use Rattle.declared_features.specs.Inside.Newly.{IsNewly}
 use Rattle.declared_features.specs.Inside.Keys.{EdgeKey, StoredKey, HasKey, HasEdgeWith}
 use Rattle.declared_features.specs.declared.declaring.DeclaredGraph.{DeclaredGraph}
 use Rattle.declared_features.specs.declared.linking.RequestedFeatures.{RequestedFeatures}
-use Rattle.declared_features.specs.declared.manifests.Declared.{Declared}
+use Rattle.declared_features.specs.declared.manifests.DeclaredDependency.{DeclaredDependency}
 use Rattle.declared_features.proofs.Collecting.{some_same}
 use Rattle.declared_features.proofs.EdgeKeys.{similar}
 use Rattle.declared_features.proofs.Enabling.{either}
@@ -31,7 +31,7 @@ any_as P Q xs to (k, x, below, same, such) = (k, x, below, same, to x such)
 -- ---- a filtered document
 
 -- the answer says whether the set has the key of the dependency, if that has a condition
-abbrev pub SaysKey : BTreeSet StoredKey → Declared → Bool → Type 0
+abbrev pub SaysKey : BTreeSet StoredKey → DeclaredDependency → Bool → Type 0
 SaysKey keys declared answer =
     (condition : List ℕ) → option_copied declared.condition ≡ Some condition
     → (answer ≡ true) ↔ HasKey keys ((declared.name.now, condition), declared.kind)
@@ -42,7 +42,7 @@ AreKeysOf graph node keys = (key : EdgeKey) → HasKey keys key ↔ HasEdgeWith 
 abbrev pub TurnedOn : DeclaredGraph → ℕ → List ℕ → Type 0
 TurnedOn graph node = IsTurnedOnIn (view graph.document.now) node (features_at graph.declared.now node)
 
-pub filtered_from : (graph : DeclaredGraph) (node : ℕ) (declared : Declared) (enabled : NameSet)
+pub filtered_from : (graph : DeclaredGraph) (node : ℕ) (declared : DeclaredDependency) (enabled : NameSet)
     (keys : BTreeSet StoredKey) (has_key : Bool) → HasJustNames enabled (TurnedOn graph node)
     → AreKeysOf graph node keys → (declared.is_optional ≡ true → HasName enabled (toml_name declared))
     → MayBeFiltered graph node declared → SaysKey keys declared has_key → has_key ≡ false
@@ -57,12 +57,12 @@ filtered_from graph node declared enabled keys has_key just keys_are is_enabled 
       absurd (let both : true ≡ false = sym found ∙ has_none in cc);
 }
 
-pub filtered_enabled : (graph : DeclaredGraph) (node : ℕ) (declared : Declared) (enabled : NameSet)
+pub filtered_enabled : (graph : DeclaredGraph) (node : ℕ) (declared : DeclaredDependency) (enabled : NameSet)
     → HasJustNames enabled (TurnedOn graph node) → IsFilteredOut graph node declared → declared.is_optional ≡ true
     → HasName enabled (toml_name declared)
 filtered_enabled graph node declared enabled just is optional = (just (toml_name declared)).1 (is.enabled optional)
 
-pub filtered_key : (graph : DeclaredGraph) (node : ℕ) (declared : Declared) (keys : BTreeSet StoredKey) (has_key : Bool)
+pub filtered_key : (graph : DeclaredGraph) (node : ℕ) (declared : DeclaredDependency) (keys : BTreeSet StoredKey) (has_key : Bool)
     → AreKeysOf graph node keys → SaysKey keys declared has_key → IsFilteredOut graph node declared → has_key ≡ true
     → ⊥
 filtered_key graph node declared keys has_key keys_are says is found =
@@ -73,7 +73,7 @@ filtered_key graph node declared keys has_key keys_are says is found =
 -- ---- a document that was made with too few features
 
 pub newly_from : (graph : DeclaredGraph) (resolved : Resolved) (requested : RequestedFeatures) (node : ℕ)
-    (declared : Declared) (enabled before : NameSet)
+    (declared : DeclaredDependency) (enabled before : NameSet)
     → HasJustNames enabled (IsTurnedOn graph resolved requested node) → HasJustNames before (TurnedOn graph node)
     → IsNewly enabled before declared → (¬ HasNoLibrary graph.declared.now declared) × ¬ HasEdge graph node declared
     → IsNewlyEnabled graph resolved requested node declared
@@ -86,7 +86,7 @@ newly_from graph resolved requested node declared enabled before now_on was_on n
 }
 
 pub newly_names : (graph : DeclaredGraph) (resolved : Resolved) (requested : RequestedFeatures) (node : ℕ)
-    (declared : Declared) (enabled before : NameSet)
+    (declared : DeclaredDependency) (enabled before : NameSet)
     → HasJustNames enabled (IsTurnedOn graph resolved requested node) → HasJustNames before (TurnedOn graph node)
     → IsNewlyEnabled graph resolved requested node declared → IsNewly enabled before declared
 newly_names graph resolved requested node declared enabled before now_on was_on is = record {

@@ -13,7 +13,7 @@ use Rattle.package_graphs.specs.declared.packages.Dependency.{Dependency as Link
 use Rattle.cargo_metadata.specs.declared.nodes.Dependency.{Dependency as Edge}
 use Rattle.cargo_metadata.specs.declared.nodes.KindRow.{KindRow}
 use Rattle.declared_features.specs.Rows.{EdgeKind, of_kind, kinds_by, kinds_of, IsRowAt, AreRowsOf}
-use Rattle.declared_features.specs.declared.declaring.Row.{Row}
+use Rattle.declared_features.specs.declared.declaring.DependencyRow.{DependencyRow}
 
 some_same : {X : Type 0} (x y : X) → Some x ≡ Some y → x ≡ y
 some_same x y e = cc
@@ -68,13 +68,13 @@ element_at xs k below =
 
 -- ---- rows
 
-row_grown : (kinds more : List EdgeKind) (links : List LinkedEdge) (k : ℕ) (row : Row) → IsRowAt kinds links k row
+row_grown : (kinds more : List EdgeKind) (links : List LinkedEdge) (k : ℕ) (row : DependencyRow) → IsRowAt kinds links k row
     → IsRowAt (kinds ++ more) links k row
 row_grown kinds more links k row is =
     record { index = is.index; kind = get_grown kinds more k _ is.kind; link = is.link }
 
 -- there is no row without a kind
-rows_within : (kinds : List EdgeKind) (links : List LinkedEdge) (rows : List Row) → AreRowsOf kinds links rows
+rows_within : (kinds : List EdgeKind) (links : List LinkedEdge) (rows : List DependencyRow) → AreRowsOf kinds links rows
     → length rows ≤ length kinds
 rows_within kinds links rows are =
     elim (cases_lt (length kinds) (length rows)) [
@@ -89,7 +89,7 @@ rows_within kinds links rows are =
       | inr within ↦ within
     ]
 
-pub rows_none : (kinds : List EdgeKind) (links : List LinkedEdge) (rows : List Row) → rows ≡ []
+pub rows_none : (kinds : List EdgeKind) (links : List LinkedEdge) (rows : List DependencyRow) → rows ≡ []
     → (kinds ≡ []) ⊎ (links ≡ []) → AreRowsOf kinds links rows
 rows_none kinds links rows empty none =
     let count = ap length empty in
@@ -102,8 +102,8 @@ rows_none kinds links rows empty none =
           ];
     }
 
-pub rows_more : (kinds : List EdgeKind) (links : List LinkedEdge) (rows new : List Row) (kind : EdgeKind)
-    (link : LinkedEdge) (row : Row)
+pub rows_more : (kinds : List EdgeKind) (links : List LinkedEdge) (rows new : List DependencyRow) (kind : EdgeKind)
+    (link : LinkedEdge) (row : DependencyRow)
     → new ≡ rows ++ row ∷ [] → slice_get links (length rows) ≡ Some link → row.index ≡ length rows
     → kind ≡ (row.edge.now, row.kind) → row.linked ≡ link → AreRowsOf kinds links rows
     → AreRowsOf (kinds ++ kind ∷ []) links new
@@ -127,18 +127,18 @@ rows_more kinds links rows new kind link row pushed there index is linked are =
           elim (get_pushed rows row k r at) [
             | inl before ↦ row_grown kinds (kind ∷ []) links k r (are.each k r before)
             | inr last ↦
-                subst (λ (r : Row). IsRowAt (kinds ++ kind ∷ []) links k r) last.1
+                subst (λ (r : DependencyRow). IsRowAt (kinds ++ kind ∷ []) links k r) last.1
                 (subst (λ (n : ℕ). IsRowAt (kinds ++ kind ∷ []) links n row) (sym last.0) here)
           ];
       all = λ k below link. omega (arith, below, same, length_push kinds kind, length_push rows row);
     } in
-    subst (λ (l : List Row). AreRowsOf (kinds ++ kind ∷ []) links l) (sym pushed) all_rows
+    subst (λ (l : List DependencyRow). AreRowsOf (kinds ++ kind ∷ []) links l) (sym pushed) all_rows
 
-abbrev pub row_of : Bor Edge → KindRow → LinkedEdge → ℕ → Row
+abbrev pub row_of : Bor Edge → KindRow → LinkedEdge → ℕ → DependencyRow
 row_of edge kind linked index = record { edge = edge; kind = kind; linked = linked; index = index }
 
 -- a row whose edge is copied
-pub rows_pushed : (kinds : List EdgeKind) (links : List LinkedEdge) (rows new : List Row) (edge : Bor Edge)
+pub rows_pushed : (kinds : List EdgeKind) (links : List LinkedEdge) (rows new : List DependencyRow) (edge : Bor Edge)
     (kind : KindRow) (index : ℕ) (default : LinkedEdge)
     → new ≡ rows ++ row_of edge kind (get_or links index default) index ∷ [] → index ≡ length rows
     → index < length links → AreRowsOf kinds links rows → AreRowsOf (kinds ++ of_kind edge.now kind ∷ []) links new
@@ -148,7 +148,7 @@ rows_pushed kinds links rows new edge kind index default pushed same below are =
     (ap (λ (n : ℕ). slice_get links n) (sym same) ∙ slice_get-get_or links index default below) same refl refl are
 
 -- without a further edge there is no further row
-pub rows_ended : (kinds more : List EdgeKind) (links : List LinkedEdge) (rows : List Row)
+pub rows_ended : (kinds more : List EdgeKind) (links : List LinkedEdge) (rows : List DependencyRow)
     → length links ≤ length rows → AreRowsOf kinds links rows → AreRowsOf (kinds ++ more) links rows
 rows_ended kinds more links rows past are = record {
   each = λ k row at. row_grown kinds more links k row (are.each k row at);

@@ -10,7 +10,7 @@ use Rattle.declared_features.specs.Requested.{is_concerned, AreRequested, HasLas
 use Rattle.declared_features.specs.Edges.{name_at}
 use Rattle.declared_features.specs.declared.declaring.Declarations.{Declarations}
 use Rattle.declared_features.specs.declared.declaring.DeclaredGraph.{DeclaredGraph}
-use Rattle.declared_features.specs.declared.linking.Described.{Described}
+use Rattle.declared_features.specs.declared.linking.ResolverInput.{ResolverInput}
 use Rattle.declared_features.specs.declared.linking.Named.{Named}
 use Rattle.declared_features.specs.declared.linking.RequestedFeatures.{RequestedFeatures}
 
@@ -45,13 +45,13 @@ pub record IsDescribedAt (graph : DeclaredGraph) (requested : RequestedFeatures)
   pub is : IsDescribed graph requested at node package_at edges_at.items
 
 -- each node's package is described
-abbrev pub AreDescribed : DeclaredGraph → RequestedFeatures → Described → Type 0
+abbrev pub AreDescribed : DeclaredGraph → RequestedFeatures → ResolverInput → Type 0
 AreDescribed graph requested described =
     (node : ℕ) → node < length graph.linked.now.packages.items
     → IsDescribedAt graph requested (declared_indexes graph.declared.now) described.packages.items described.edges.items node
 
 -- the described packages are those from before, and maybe more
-pub record KeepsDescribed (old new : Described) : Type 0 where
+pub record KeepsDescribed (old new : ResolverInput) : Type 0 where
   pub more : List Package
   pub packages : new.packages.items ≡ old.packages.items ++ more
   pub more_edges : List (Vec ℕ Global)

@@ -12,7 +12,7 @@ use Rattle.cargo_metadata.specs.Nodes.{kind_at, condition_at}
 use Rattle.cargo_metadata.specs.Rows.{AreRows, AreRowsAt}
 use Rattle.declared_features.specs.Entries.{IsEntry}
 use Rattle.declared_features.specs.declared.entries.FeatureEntry.{FeatureEntry}
-use Rattle.declared_features.specs.declared.manifests.Declared.{Declared}
+use Rattle.declared_features.specs.declared.manifests.DeclaredDependency.{DeclaredDependency}
 use Rattle.declared_features.specs.declared.manifests.Feature.{Feature}
 use Rattle.declared_features.specs.declared.manifests.Manifest.{Manifest}
 
@@ -20,7 +20,7 @@ abbrev pub IsText : Data → Bor (List ℕ) → Type 0
 IsText d text = as_str d ≡ Some text.now
 
 -- the dependency that an object declares
-pub record IsDeclared (d : Data) (declared : Declared) : Type 0 where
+pub record IsDeclared (d : Data) (declared : DeclaredDependency) : Type 0 where
   pub name : text_at (codes "name") d ≡ Some declared.name.now
   pub rename : text_at (codes "rename") d ≡ option_copied declared.rename
   pub kind : kind_at d ≡ Some declared.kind

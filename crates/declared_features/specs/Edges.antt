@@ -3,11 +3,11 @@ use Rattle.std.specs.Prelude.{◌≡◌, ◌==◌, ℕ, Bool, true, false, cond,
 use Rattle.std.specs.Prelude.{unwrap_or}
 use Rattle.std.specs.Option.{option_copied}
 use Rattle.std.specs.Borrow.{Bor}
-use Rattle.cargo_metadata.specs.declared.packages.Package.{Package as Described}
+use Rattle.cargo_metadata.specs.declared.packages.Package.{Package as ResolverInput}
 use Rattle.declared_features.specs.Manifests.{manifest_at}
 use Rattle.declared_features.specs.declared.declaring.DeclaredGraph.{DeclaredGraph}
-use Rattle.declared_features.specs.declared.declaring.Row.{Row}
-use Rattle.declared_features.specs.declared.manifests.Declared.{Declared}
+use Rattle.declared_features.specs.declared.declaring.DependencyRow.{DependencyRow}
+use Rattle.declared_features.specs.declared.manifests.DeclaredDependency.{DeclaredDependency}
 use Rattle.declared_features.specs.declared.manifests.Manifest.{Manifest}
 
 -- the name with each `-` as `_`, as in code
@@ -17,7 +17,7 @@ underscored name = map (λ b. cond (b == 45) 95 b) name
 abbrev pub AreSame : List ℕ → List ℕ → Type 0
 AreSame name other = underscored name ≡ underscored other
 
-abbrev pub name_in : Option Described → List ℕ
+abbrev pub name_in : Option ResolverInput → List ℕ
 name_in None = []
 name_in (Some described) = described.name.now
 
@@ -40,7 +40,7 @@ abbrev pub called : Bool → Option (Bor (List ℕ)) → List ℕ → List ℕ
 called true rename library = library
 called false rename library = unwrap_or (option_copied rename) library
 
-abbrev pub code_name : DeclaredGraph → ℕ → ℕ → Declared → List ℕ
+abbrev pub code_name : DeclaredGraph → ℕ → ℕ → DeclaredDependency → List ℕ
 code_name graph node to declared = called (node == to) declared.rename (library_at graph to)
 
 -- an edge without a name may have any
@@ -49,12 +49,12 @@ MayBeCalled None name = Unit {0}
 MayBeCalled (Some found) name = AreSame found.now name
 
 -- the edge has the kind and the condition of the declared dependency
-pub record IsLike (row : Row) (declared : Declared) : Type 0 where
+pub record IsLike (row : DependencyRow) (declared : DeclaredDependency) : Type 0 where
   pub kind : row.kind.kind ≡ declared.kind
   pub condition : option_copied row.kind.condition ≡ option_copied declared.condition
 
 -- the edge of a node belongs to the dependency that its package declares
-pub record IsOf (graph : DeclaredGraph) (node : ℕ) (row : Row) (declared : Declared) : Type 0 where
+pub record IsOf (graph : DeclaredGraph) (node : ℕ) (row : DependencyRow) (declared : DeclaredDependency) : Type 0 where
   pub alike : IsLike row declared
   pub to : name_at graph row.linked.to ≡ declared.name.now
   pub code : MayBeCalled row.edge.now.name (code_name graph node row.linked.to declared)

@@ -6,7 +6,7 @@ use Rattle.cargo_metadata.specs.declared.nodes.Node.{Node}
 use Rattle.cargo_metadata.specs.declared.packages.Package.{Package}
 use Rattle.declared_features.specs.declared.declaring.Declarations.{Declarations}
 use Rattle.declared_features.specs.declared.manifests.Feature.{Feature}
-use Rattle.declared_features.specs.declared.manifests.Declared.{Declared}
+use Rattle.declared_features.specs.declared.manifests.DeclaredDependency.{DeclaredDependency}
 use Rattle.declared_features.specs.declared.manifests.Manifest.{Manifest}
 
 -- the index of the first package with an id
@@ -29,14 +29,14 @@ abbrev pub features_in : Option Manifest → List Feature
 features_in None = []
 features_in (Some manifest) = manifest.features.items
 
-abbrev pub dependencies_in : Option Manifest → List Declared
+abbrev pub dependencies_in : Option Manifest → List DeclaredDependency
 dependencies_in None = []
 dependencies_in (Some manifest) = manifest.dependencies.items
 
 abbrev pub features_at : Declarations → ℕ → List Feature
 features_at declarations node = features_in (manifest_at declarations node)
 
-abbrev pub dependencies_at : Declarations → ℕ → List Declared
+abbrev pub dependencies_at : Declarations → ℕ → List DeclaredDependency
 dependencies_at declarations node = dependencies_in (manifest_at declarations node)
 
 -- a package of this name has no library

@@ -26,11 +26,11 @@ use Rattle.declared_features.specs.Requests.{toml_name}
 use Rattle.declared_features.specs.Rows.{kinds_at, links_at, IsRowAt}
 use Rattle.declared_features.specs.declared.declaring.Declarations.{Declarations}
 use Rattle.declared_features.specs.declared.declaring.DeclaredGraph.{DeclaredGraph}
-use Rattle.declared_features.specs.declared.declaring.Row.{Row}
+use Rattle.declared_features.specs.declared.declaring.DependencyRow.{DependencyRow}
 use Rattle.declared_features.specs.declared.entries.FeatureEntry.{FeatureEntry}
 use Rattle.declared_features.specs.declared.entries.FeatureEntry.TheVariants as entry
 use Rattle.declared_features.specs.declared.linking.RequestedFeatures.{RequestedFeatures}
-use Rattle.declared_features.specs.declared.manifests.Declared.{Declared}
+use Rattle.declared_features.specs.declared.manifests.DeclaredDependency.{DeclaredDependency}
 use Rattle.declared_features.specs.declared.manifests.Feature.{Feature}
 use Rattle.declared_features.specs.declared.missing_edges.MissingEdge.{MissingEdge}
 
@@ -65,25 +65,25 @@ IsTurnedOnIn document node features name =
 -- ---- edges
 
 -- the row is that of an edge of the node
-abbrev pub IsEdgeAt : DeclaredGraph → ℕ → Row → Type 0
+abbrev pub IsEdgeAt : DeclaredGraph → ℕ → DependencyRow → Type 0
 IsEdgeAt graph node row =
     (k : ℕ) × IsRowAt (kinds_at graph.metadata.now node) (links_at graph.linked.now node) k row
 
 -- an edge of the node belongs to the dependency
-pub record HasEdge (graph : DeclaredGraph) (node : ℕ) (declared : Declared) : Type 0 where
-  pub row : Row
+pub record HasEdge (graph : DeclaredGraph) (node : ℕ) (declared : DeclaredDependency) : Type 0 where
+  pub row : DependencyRow
   pub there : IsEdgeAt graph node row
   pub belongs : IsOf graph node row declared
 
 -- an edge of the node has the kind and the condition of the dependency, and leads to a package of its name
-pub record HasSimilarEdge (graph : DeclaredGraph) (node : ℕ) (declared : Declared) : Type 0 where
-  pub row : Row
+pub record HasSimilarEdge (graph : DeclaredGraph) (node : ℕ) (declared : DeclaredDependency) : Type 0 where
+  pub row : DependencyRow
   pub there : IsEdgeAt graph node row
   pub alike : IsLike row declared
   pub to : name_at graph row.linked.to ≡ declared.name.now
 
 -- a package of the name has no library, so that Cargo gives the dependency no edge
-abbrev pub HasNoLibrary : Declarations → Declared → Type 0
+abbrev pub HasNoLibrary : Declarations → DeclaredDependency → Type 0
 HasNoLibrary declarations declared = HasName declarations.without_library declared.name.now
 
 -- ---- the first one
@@ -97,13 +97,13 @@ pub record IsFirst {X : Type 0} (P : X → Type 0) (xs : List X) (x : X) : Type 
 
 -- by the order of the nodes, and then by that in which their packages declare dependencies, this is the first for which
 -- this holds
-pub record IsFirstMissing (graph : DeclaredGraph) (P : ℕ → Declared → Type 0) (found : MissingEdge) : Type 0 where
+pub record IsFirstMissing (graph : DeclaredGraph) (P : ℕ → DeclaredDependency → Type 0) (found : MissingEdge) : Type 0 where
   pub node : found.node < length graph.metadata.now.nodes.items
   pub declared : IsFirst (P found.node) (dependencies_at graph.declared.now found.node) found.declared.now
   pub earlier : (k : ℕ) → k < found.node → ¬ Any (P k) (dependencies_at graph.declared.now k)
 
 -- it holds for no dependency of any node
-abbrev pub IsNoneMissing : DeclaredGraph → (ℕ → Declared → Type 0) → Type 0
+abbrev pub IsNoneMissing : DeclaredGraph → (ℕ → DeclaredDependency → Type 0) → Type 0
 IsNoneMissing graph P =
     (k : ℕ) → k < length graph.metadata.now.nodes.items → ¬ Any (P k) (dependencies_at graph.declared.now k)
 
@@ -129,7 +129,7 @@ is_root_at graph node = is_root_in (slice_get graph.linked.now.packages.items no
 
 -- A filter may have left out the edge of this dependency: its condition is not one that the filter kept, and it has an
 -- edge in a whole document. Only roots have dev-dependencies there.
-pub record MayBeFiltered (graph : DeclaredGraph) (node : ℕ) (declared : Declared) : Type 0 where
+pub record MayBeFiltered (graph : DeclaredGraph) (node : ℕ) (declared : DeclaredDependency) : Type 0 where
   pub condition : List ℕ
   pub is : option_copied declared.condition ≡ Some condition
   pub left_out : ¬ IsKept graph.metadata.now condition
@@ -137,7 +137,7 @@ pub record MayBeFiltered (graph : DeclaredGraph) (node : ℕ) (declared : Declar
   pub library : ¬ HasNoLibrary graph.declared.now declared
 
 -- the dependency of the node is enabled, a filter may have left it out, and it has no edge
-pub record IsFilteredOut (graph : DeclaredGraph) (node : ℕ) (declared : Declared) : Type 0 where
+pub record IsFilteredOut (graph : DeclaredGraph) (node : ℕ) (declared : DeclaredDependency) : Type 0 where
   pub enabled : declared.is_optional ≡ true
       → IsTurnedOnIn (view graph.document.now) node (features_at graph.declared.now node) (toml_name declared)
   pub may_be : MayBeFiltered graph node declared
@@ -177,7 +177,7 @@ IsTurnedOn graph resolved requested node name =
 -- The optional dependency of the node is turned on, was not turned on in the document, and has no edge, while its
 -- package has a library.
 pub record IsNewlyEnabled (graph : DeclaredGraph) (resolved : Resolved) (requested : RequestedFeatures) (node : ℕ)
-    (declared : Declared) : Type 0 where
+    (declared : DeclaredDependency) : Type 0 where
   pub optional : declared.is_optional ≡ true
   pub enabled : IsTurnedOn graph resolved requested node (toml_name declared)
   pub newly : ¬ IsTurnedOnIn (view graph.document.now) node (features_at graph.declared.now node) (toml_name declared)

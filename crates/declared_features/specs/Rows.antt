@@ -7,7 +7,7 @@ use Rattle.cargo_metadata.specs.declared.nodes.KindRow.{KindRow}
 use Rattle.cargo_metadata.specs.declared.nodes.Node.{Node}
 use Rattle.package_graphs.specs.declared.packages.Dependency.{Dependency as LinkedEdge}
 use Rattle.package_graphs.specs.declared.packages.Package.{Package as Unit}
-use Rattle.declared_features.specs.declared.declaring.Row.{Row}
+use Rattle.declared_features.specs.declared.declaring.DependencyRow.{DependencyRow}
 
 -- a dependency of a node, of one of its kinds
 abbrev pub EdgeKind : Type 0
@@ -39,12 +39,12 @@ abbrev pub links_at : Linked → ℕ → List LinkedEdge
 links_at linked node = links_in (slice_get linked.packages.items node)
 
 -- the row is that of the kind at the index k
-pub record IsRowAt (kinds : List EdgeKind) (links : List LinkedEdge) (k : ℕ) (row : Row) : Type 0 where
+pub record IsRowAt (kinds : List EdgeKind) (links : List LinkedEdge) (k : ℕ) (row : DependencyRow) : Type 0 where
   pub index : row.index ≡ k
   pub kind : slice_get kinds k ≡ Some (of_kind row.edge.now row.kind)
   pub link : slice_get links k ≡ Some row.linked
 
 -- the rows are those of all kinds that have edges, in order
-pub record AreRowsOf (kinds : List EdgeKind) (links : List LinkedEdge) (rows : List Row) : Type 0 where
-  pub each : (k : ℕ) (row : Row) → slice_get rows k ≡ Some row → IsRowAt kinds links k row
+pub record AreRowsOf (kinds : List EdgeKind) (links : List LinkedEdge) (rows : List DependencyRow) : Type 0 where
+  pub each : (k : ℕ) (row : DependencyRow) → slice_get rows k ≡ Some row → IsRowAt kinds links k row
   pub all : (k : ℕ) → k < length kinds → k < length links → k < length rows

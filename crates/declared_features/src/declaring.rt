@@ -14,7 +14,7 @@ ghost use Rattle.declared_features.specs.NameSets.{HasJustNames};
 ghost use Rattle.declared_features.specs.Rows.{EdgeKind, kinds_by, kinds_at, links_at, AreRowsOf};
 ghost use Rattle.declared_features.specs.Edges.{AreSame, IsLike, IsOf, name_at, code_name};
 
-use crate::manifests::{DeclarationsError, Declared, Manifest, read_manifests};
+use crate::manifests::{DeclarationsError, DeclaredDependency, Manifest, read_manifests};
 use crate::name_sets::add_name;
 use cargo_metadata::graphs::Linked;
 use cargo_metadata::{Dependency as Edge, Indexes, KindRow, Metadata, Package};
@@ -158,7 +158,7 @@ impl<'a> Declarations<'a> {
     }
 
     /// Returns whether Cargo gives no edge to a declared dependency, since its package has no library.
-    pub fn has_no_library(&self, declared: &Declared<'a>) -> bool
+    pub fn has_no_library(&self, declared: &DeclaredDependency<'a>) -> bool
         // The result is true exactly if a package of the dependency's name has no library.
         ensures { IsTrue result ↔ HasNoLibrary self.now declared.now }
     {
@@ -177,7 +177,7 @@ pub struct DeclaredGraph<'m, 'a> {
 
 /// A dependency of a node, of one of its kinds.
 #[derive(Clone, Copy, Drop)]
-pub struct Row<'m, 'a> {
+pub struct DependencyRow<'m, 'a> {
     pub edge: &'m Edge<'a>,
     pub kind: KindRow<'a>,
     pub linked: LinkedEdge,
@@ -185,9 +185,9 @@ pub struct Row<'m, 'a> {
     pub index: usize,
 }
 
-impl<'m, 'a> Row<'m, 'a> {
+impl<'m, 'a> DependencyRow<'m, 'a> {
     /// Returns whether the kind and the condition are those of a declared dependency.
-    fn is_like(&self, declared: &Declared<'a>) -> bool
+    fn is_like(&self, declared: &DeclaredDependency<'a>) -> bool
         ensures { IsTrue result ↔ IsLike self.now declared.now }
     {
         declared.kind == self.kind.kind && declared.condition == self.kind.condition
@@ -198,7 +198,7 @@ impl<'m, 'a> Row<'m, 'a> {
 fn push_rows<'m, 'a>(
     edge: &'m Edge<'a>,
     links: &[LinkedEdge],
-    rows: &mut Vec<Row<'m, 'a>>,
+    rows: &mut Vec<DependencyRow<'m, 'a>>,
 ) -> Result<(), AllocError>
     ensures { OnOk result ((kinds : List EdgeKind) → AreRowsOf kinds links.now rows.old.items
         → AreRowsOf (kinds ++ kinds_by edge.now) links.now rows.new.items) }
@@ -210,7 +210,7 @@ fn push_rows<'m, 'a>(
         }
         let kind = edge.kinds[i];
         let linked = links[index];
-        rows.push(Row {
+        rows.push(DependencyRow {
             edge,
             kind,
             linked,
@@ -221,12 +221,12 @@ fn push_rows<'m, 'a>(
 }
 
 /// Returns the dependencies of a node, in the order of the document.
-pub fn rows_of<'m, 'a>(
+pub fn dependency_rows<'m, 'a>(
     alloc: Global,
     metadata: &'m Metadata<'a>,
     linked: &Linked<'a>,
     node: usize,
-) -> Result<Vec<Row<'m, 'a>>, AllocError>
+) -> Result<Vec<DependencyRow<'m, 'a>>, AllocError>
     // Each kind of each dependency of the node has a row, in order, with the edge that the graph has for it.
     ensures { IfOk result
         (λ rows. AreRowsOf (kinds_at metadata.now node) (links_at linked.now node) rows.items) }
@@ -286,7 +286,12 @@ impl<'m, 'a> DeclaredGraph<'m, 'a> {
     /// Returns whether a dependency of a node is a declared one: it has its kind and condition, leads to a package with
     /// the declared name, and has the name by which code refers to it. An edge from a package to itself has the
     /// library's name.
-    pub fn is_of(&self, node: usize, row: &Row<'_, 'a>, declared: &Declared<'a>) -> bool
+    pub fn is_of(
+        &self,
+        node: usize,
+        row: &DependencyRow<'_, 'a>,
+        declared: &DeclaredDependency<'a>,
+    ) -> bool
         // The result is true exactly if the edge has the kind and the condition of the declared dependency, leads to a
         // package of its name, and has the name that code uses: as the dependency is renamed, or else the library's
         // name, also in a package that depends on itself. `-` counts as `_`. An edge without a name may have any.
@@ -303,7 +308,7 @@ impl<'m, 'a> DeclaredGraph<'m, 'a> {
     }
 
     /// Returns the name by which the code of a node refers to a declared dependency on another one.
-    fn code_name(&self, node: usize, to: usize, declared: &Declared<'a>) -> &'a str
+    fn code_name(&self, node: usize, to: usize, declared: &DeclaredDependency<'a>) -> &'a str
         ensures { result.now ≡ code_name self.now node to declared.now }
     {
         if node != to {

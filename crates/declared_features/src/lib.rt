@@ -10,10 +10,10 @@ mod missing_edges;
 mod name_sets;
 mod requested;
 
-pub use declaring::{Declarations, DeclaredGraph, Row, rows_of};
+pub use declaring::{Declarations, DeclaredGraph, DependencyRow, dependency_rows};
 pub use entries::{FeatureEntry, entry_of};
-pub use linking::{Described, RequestedFeatures, described_features};
+pub use linking::{RequestedFeatures, ResolverInput, resolver_input};
 pub use manifests::{
-    DeclarationsError, Declared, DependencyError, Feature, Manifest, ManifestError,
+    DeclarationsError, DeclaredDependency, DependencyError, Feature, Manifest, ManifestError,
 };
-pub use missing_edges::{MissingEdge, first_filtered, first_missing_edge};
+pub use missing_edges::{MissingEdge, first_filtered_out, first_missing_edge};

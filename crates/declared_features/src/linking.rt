@@ -13,9 +13,9 @@ ghost use Rattle.declared_features.specs.Requests.{toml_name, IsDefault, IsReque
 ghost use Rattle.cargo_metadata.specs.Indexes.{index_at};
 ghost use Rattle.declared_features.specs.Inside.Names.{index_in, AreNamesOf};
 
-use crate::declaring::{Declarations, DeclaredGraph, Row, rows_of};
+use crate::declaring::{Declarations, DeclaredGraph, DependencyRow, dependency_rows};
 use crate::entries::FeatureEntry;
-use crate::manifests::{Declared, Manifest};
+use crate::manifests::{DeclaredDependency, Manifest};
 use crate::requested::activation_root;
 use cargo_features::{Dependency, FeatureValue, Package};
 use cargo_metadata::Indexes;
@@ -50,7 +50,7 @@ struct Named<'a> {
 
 /// The packages of a graph, as input of the feature resolver.
 #[derive(Drop)]
-pub struct Described {
+pub struct ResolverInput {
     /// The packages. The last feature of each root has no name: it lists what is requested of the root.
     pub packages: Vec<Package>,
     /// For each dependency of each package, the index among those of the linked package.
@@ -136,7 +136,11 @@ fn push_member(
 }
 
 /// Returns the index of the feature `default`, if a declared dependency uses that and the package has it.
-fn default_requested<'a>(names: &Names<'a>, to: usize, declared: &Declared<'a>) -> Option<usize>
+fn default_requested<'a>(
+    names: &Names<'a>,
+    to: usize,
+    declared: &DeclaredDependency<'a>,
+) -> Option<usize>
     ensures { (index : ℕ) → (result ≡ Some index) ↔ IsDefault (index_in names.now) to declared.now index }
 {
     if !declared.uses_default {
@@ -150,7 +154,7 @@ fn features_requested<'a>(
     alloc: Global,
     names: &Names<'a>,
     to: usize,
-    declared: &Declared<'a>,
+    declared: &DeclaredDependency<'a>,
 ) -> Result<Vec<usize>, AllocError>
     ensures { IfOk result (λ features. HasJust features.items (IsRequested (index_in names.now) to declared.now)) }
 {
@@ -164,7 +168,7 @@ fn features_requested<'a>(
 }
 
 /// Returns the name that a package's manifest gives a dependency.
-pub fn toml_name<'a>(declared: &Declared<'a>) -> &'a str
+pub fn toml_name<'a>(declared: &DeclaredDependency<'a>) -> &'a str
     ensures { result.now ≡ toml_name declared.now }
 {
     declared.rename.unwrap_or(declared.name)
@@ -175,8 +179,8 @@ fn named_of<'a>(
     alloc: Global,
     names: &Names<'a>,
     node: usize,
-    row: &Row<'_, 'a>,
-    declared: &Declared<'a>,
+    row: &DependencyRow<'_, 'a>,
+    declared: &DeclaredDependency<'a>,
 ) -> Result<Named<'a>, AllocError>
     ensures { IfOk result (IsNamedOf (index_in names.now) node row.now declared.now) }
 {
@@ -205,7 +209,7 @@ fn dependencies_of<'a>(
     ensures { IfOk result (λ found. AreDependenciesOf graph.now (index_in names.now) node found.items) }
 {
     let mut found = Vec::new(alloc);
-    let rows = rows_of(alloc, graph.metadata, graph.linked, node)?;
+    let rows = dependency_rows(alloc, graph.metadata, graph.linked, node)?;
     let Some(manifest) = graph.declared.manifest(node) else {
         return Ok(found);
     };
@@ -469,7 +473,7 @@ fn described_package<'a>(
 fn add_activation_root(
     alloc: Global,
     requested: &RequestedFeatures<'_>,
-    described: &mut Described,
+    described: &mut ResolverInput,
 ) -> Result<(), AllocError>
     ensures kept { OnOk result (KeepsDescribed described.old described.new) }
     ensures activated { OnOk result
@@ -487,11 +491,11 @@ fn add_activation_root(
 }
 
 /// Returns the packages of a graph, as input of the feature resolver. Fails only if memory is refused.
-pub fn described_features<'a>(
+pub fn resolver_input<'a>(
     alloc: Global,
     graph: &DeclaredGraph<'_, 'a>,
     requested: &RequestedFeatures<'a>,
-) -> Result<Described, AllocError>
+) -> Result<ResolverInput, AllocError>
     // The package of each node has the dependencies that the document declares and that have edges, and each of its
     // features has the members that the entries of its list stand for. A package of which features are requested has
     // one feature more, whose list has the members that these stand for, and all features if all are requested. A root
@@ -511,7 +515,7 @@ pub fn described_features<'a>(
         packages.push(package)?;
         edges.push(its_edges)?;
     }
-    let mut described = Described { packages, edges };
+    let mut described = ResolverInput { packages, edges };
     add_activation_root(alloc, requested, &mut described)?;
     Ok(described)
 }

@@ -23,7 +23,7 @@ use std::fmt::{self, Display, Formatter, Write};
 
 /// A dependency as a package declares it.
 #[derive(Drop)]
-pub struct Declared<'a> {
+pub struct DeclaredDependency<'a> {
     /// The name of the package that is depended on.
     pub name: &'a str,
     /// The name that the declaring package gives it, if it gives one.
@@ -49,7 +49,7 @@ pub struct Feature<'a> {
 pub struct Manifest<'a> {
     /// The name of the package's library, if it has one.
     pub library: Option<&'a str>,
-    pub dependencies: Vec<Declared<'a>>,
+    pub dependencies: Vec<DeclaredDependency<'a>>,
     /// The features, sorted by name.
     pub features: Vec<Feature<'a>>,
 }
@@ -128,7 +128,10 @@ fn subject_of<'a>(value: &'a Value) -> Result<(&'a str, Kind, Option<&'a str>), 
 }
 
 /// Reads a declared dependency from an object.
-fn declared_of<'a>(alloc: Global, value: &'a Value) -> Result<Declared<'a>, DependencyError>
+fn declared_of<'a>(
+    alloc: Global,
+    value: &'a Value,
+) -> Result<DeclaredDependency<'a>, DependencyError>
     ensures { MatchResult result (λ declared. IsDeclared (view value.now) declared)
         (λ fault. IsInDeclared (view value.now) fault) }
 {
@@ -142,7 +145,7 @@ fn declared_of<'a>(alloc: Global, value: &'a Value) -> Result<Declared<'a>, Depe
     };
     let features = requested_of(alloc, value)?;
     let rename = text_at(value, "rename");
-    Ok(Declared {
+    Ok(DeclaredDependency {
         name,
         rename,
         kind,
@@ -245,7 +248,10 @@ fn features_of<'a>(alloc: Global, value: &'a Value) -> Result<Option<Vec<Feature
 }
 
 /// Returns the dependencies that a package declares.
-fn dependencies_of<'a>(alloc: Global, value: &'a Value) -> Result<Vec<Declared<'a>>, ManifestError>
+fn dependencies_of<'a>(
+    alloc: Global,
+    value: &'a Value,
+) -> Result<Vec<DeclaredDependency<'a>>, ManifestError>
     ensures { MatchResult result
         (λ dependencies. AreRowsAt IsDeclared (codes "dependencies") (view value.now) dependencies.items)
         (λ fault. IsInManifest (view value.now) fault) }

@@ -1,4 +1,4 @@
-//! Declared dependencies that are enabled and have no edge. The document was filtered, or made with too few features.
+//! DeclaredDependency dependencies that are enabled and have no edge. The document was filtered, or made with too few features.
 
 ghost use Rattle.std.specs.Prelude.{◌≡◌, ◌<◌, ◌↔◌, ℕ, List, Some, Any, IfOk, OnOk, IfSome, IfNone, IsTrue, map, true};
 ghost use Rattle.std.specs.Prelude.{All};
@@ -18,10 +18,10 @@ ghost use Rattle.declared_features.specs.MissingEdges.{IsTurnedOnByRequest, IsTu
 ghost use Rattle.declared_features.specs.Requests.{toml_name};
 ghost use Rattle.declared_features.specs.Inside.Keys.{EdgeKey, kind_number, HasKey, IsKeyOf, AddsKeys, HasEdgeWith};
 
-use crate::declaring::{DeclaredGraph, Row, rows_of};
+use crate::declaring::{DeclaredGraph, DependencyRow, dependency_rows};
 use crate::entries::FeatureEntry;
 use crate::linking::{RequestedFeatures, toml_name};
-use crate::manifests::{Declared, Manifest};
+use crate::manifests::{DeclaredDependency, Manifest};
 use crate::name_sets::add_name;
 use cargo_features::{Claim, Resolved};
 use cargo_metadata::fields::{field_at, list_at};
@@ -35,7 +35,7 @@ use std::collections::BTreeSet;
 #[derive(Clone, Copy, Drop)]
 pub struct MissingEdge<'m, 'a> {
     pub node: usize,
-    pub declared: &'m Declared<'a>,
+    pub declared: &'m DeclaredDependency<'a>,
 }
 
 /// Returns the dependencies that an entry in the list of a feature turns on: `d` for `dep:d` and `d/f`, none for
@@ -192,7 +192,7 @@ fn number_of(kind: Kind) -> u8
 /// Adds the key of an edge that has a condition.
 fn add_key<'a>(
     graph: &DeclaredGraph<'_, 'a>,
-    row: &Row<'_, 'a>,
+    row: &DependencyRow<'_, 'a>,
     keys: &mut BTreeSet<Key<'a>>,
 ) -> Result<(), AllocError>
     ensures { OnOk result (AddsKeys keys.old keys.new (IsKeyOf graph.now row.now)) }
@@ -217,7 +217,7 @@ fn edge_keys<'a>(
     ensures { IfOk result (λ keys. (key : EdgeKey) → HasKey keys key ↔ HasEdgeWith graph.now node key) }
 {
     let mut keys = BTreeSet::new(alloc);
-    let rows = rows_of(alloc, graph.metadata, graph.linked, node)?;
+    let rows = dependency_rows(alloc, graph.metadata, graph.linked, node)?;
     'rows: for i in 0..rows.len() {
         add_key(graph, &rows[i], &mut keys)?;
     }
@@ -250,7 +250,7 @@ fn may_be_filtered<'a>(
     graph: &DeclaredGraph<'_, 'a>,
     node: usize,
     kept: &BTreeSet<&'a str>,
-    declared: &Declared<'a>,
+    declared: &DeclaredDependency<'a>,
 ) -> bool
     requires { HasJustNames kept.now (IsKept graph.now.metadata.now) }
     ensures { IsTrue result ↔ MayBeFiltered graph.now node declared.now }
@@ -272,7 +272,7 @@ fn may_be_filtered_any<'a>(
     graph: &DeclaredGraph<'_, 'a>,
     node: usize,
     kept: &BTreeSet<&'a str>,
-    declared: &[Declared<'a>],
+    declared: &[DeclaredDependency<'a>],
 ) -> bool
     requires { HasJustNames kept.now (IsKept graph.now.metadata.now) }
     ensures { Any (MayBeFiltered graph.now node) declared.now → IsTrue result }
@@ -286,7 +286,7 @@ fn may_be_filtered_any<'a>(
 }
 
 /// Returns whether a declared dependency is enabled: it is not optional, or this set has its name.
-fn is_enabled<'a>(enabled: &BTreeSet<&'a str>, declared: &Declared<'a>) -> bool
+fn is_enabled<'a>(enabled: &BTreeSet<&'a str>, declared: &DeclaredDependency<'a>) -> bool
     ensures { IsTrue result
         ↔ (declared.now.is_optional ≡ true → HasName enabled.now (toml_name declared.now)) }
 {
@@ -294,7 +294,7 @@ fn is_enabled<'a>(enabled: &BTreeSet<&'a str>, declared: &Declared<'a>) -> bool
 }
 
 /// Returns whether these keys of edges have that of a declared dependency, which has a condition.
-fn has_key<'a>(keys: &BTreeSet<Key<'a>>, declared: &Declared<'a>) -> bool
+fn has_key<'a>(keys: &BTreeSet<Key<'a>>, declared: &DeclaredDependency<'a>) -> bool
     ensures { (condition : List ℕ) → option_copied declared.now.condition ≡ Some condition
         → IsTrue result ↔ HasKey keys.now ((declared.now.name.now, condition), declared.now.kind) }
 {
@@ -318,7 +318,7 @@ fn is_filtered_out<'a>(
     node: usize,
     kept: &BTreeSet<&'a str>,
     found: &InDocument<'a>,
-    declared: &Declared<'a>,
+    declared: &DeclaredDependency<'a>,
 ) -> bool
     requires kept { HasJustNames kept.now (IsKept graph.now.metadata.now) }
     requires enabled { HasJustNames found.now.enabled
@@ -342,7 +342,7 @@ fn first_filtered_of<'m, 'a>(
     graph: &DeclaredGraph<'m, 'a>,
     node: usize,
     kept: &BTreeSet<&'a str>,
-) -> Result<Option<&'m Declared<'a>>, AllocError>
+) -> Result<Option<&'m DeclaredDependency<'a>>, AllocError>
     requires { HasJustNames kept.now (IsKept graph.now.metadata.now) }
     ensures found { IfOk result (λ found. IfSome found
         (λ d. IsFirst (IsFilteredOut graph.now node) (dependencies_at graph.now.declared.now node) d.now)) }
@@ -369,7 +369,7 @@ fn first_filtered_of<'m, 'a>(
 
 /// Returns the first dependency that `cargo metadata --filter-platform` left out of a document: one that is enabled,
 /// has a condition and has no edge. Fails only if memory is refused.
-pub fn first_filtered<'m, 'a>(
+pub fn first_filtered_out<'m, 'a>(
     alloc: Global,
     graph: &DeclaredGraph<'m, 'a>,
 ) -> Result<Option<MissingEdge<'m, 'a>>, AllocError>
@@ -465,11 +465,11 @@ fn has_edge<'a>(
     alloc: Global,
     graph: &DeclaredGraph<'_, 'a>,
     node: usize,
-    declared: &Declared<'a>,
+    declared: &DeclaredDependency<'a>,
 ) -> Result<bool, AllocError>
     ensures { IfOk result (λ has. IsTrue has ↔ HasEdge graph.now node declared.now) }
 {
-    let rows = rows_of(alloc, graph.metadata, graph.linked, node)?;
+    let rows = dependency_rows(alloc, graph.metadata, graph.linked, node)?;
     'rows: for i in 0..rows.len() {
         if graph.is_of(node, &rows[i], declared) {
             return Ok(true);
@@ -483,7 +483,7 @@ fn lacks_edge<'a>(
     alloc: Global,
     graph: &DeclaredGraph<'_, 'a>,
     node: usize,
-    declared: &Declared<'a>,
+    declared: &DeclaredDependency<'a>,
 ) -> Result<bool, AllocError>
     ensures { IfOk result (λ lacks. IsTrue lacks
         ↔ ((¬ HasNoLibrary graph.now.declared.now declared.now) × ¬ HasEdge graph.now node declared.now)) }
@@ -499,7 +499,7 @@ fn lacks_edge<'a>(
 fn is_newly_enabled<'a>(
     enabled: &BTreeSet<&'a str>,
     before: &BTreeSet<&'a str>,
-    declared: &Declared<'a>,
+    declared: &DeclaredDependency<'a>,
 ) -> bool
     ensures { IsTrue result ↔ IsNewly enabled.now before.now declared.now }
 {
@@ -520,7 +520,7 @@ fn is_missing<'a>(
     graph: &DeclaredGraph<'_, 'a>,
     node: usize,
     enabled: &Enabled<'a>,
-    declared: &Declared<'a>,
+    declared: &DeclaredDependency<'a>,
 ) -> Result<bool, AllocError>
     ensures { IfOk result (λ missing. IsTrue missing
         ↔ (IsNewly enabled.now.by_features enabled.now.in_document declared.now
@@ -539,7 +539,7 @@ fn first_missing_of<'m, 'a>(
     node: usize,
     resolved: &Resolved,
     requested: &RequestedFeatures<'a>,
-) -> Result<Option<&'m Declared<'a>>, AllocError>
+) -> Result<Option<&'m DeclaredDependency<'a>>, AllocError>
     ensures found { IfOk result (λ found. IfSome found
         (λ d. AreNumbers resolved.now.packages.items resolved.now.found.numbers
         → IsFirst (IsNewlyEnabled graph.now resolved.now requested.now node)

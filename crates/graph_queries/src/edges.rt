@@ -3,7 +3,7 @@
 use crate::graph::Graph;
 use cargo_metadata::Kind;
 use cargo_platform::{Platform, ReadError};
-use declared_features::rows_of;
+use declared_features::dependency_rows;
 use known_targets::TargetSet;
 use package_graphs::Kinds;
 use std::alloc::{AllocError, Global};
@@ -43,7 +43,7 @@ pub fn edges_of<'a>(
     from: usize,
 ) -> Result<Vec<Edge<'a>>, AllocError> {
     let mut edges = Vec::new(alloc);
-    for row in &rows_of(alloc, &graph.metadata, &graph.linked, from)? {
+    for row in &dependency_rows(alloc, &graph.metadata, &graph.linked, from)? {
         edges.push(Edge {
             from,
             to: row.linked.to,

@@ -4,7 +4,7 @@ use crate::lines::{shown, shown_package};
 use crate::refused::COMMAND;
 use cargo_features::Resolved;
 use declared_features::{
-    DeclaredGraph, MissingEdge, RequestedFeatures, first_filtered, first_missing_edge,
+    DeclaredGraph, MissingEdge, RequestedFeatures, first_filtered_out, first_missing_edge,
 };
 use std::alloc::{AllocError, Global};
 
@@ -28,7 +28,7 @@ pub fn filtered_reason(
     alloc: Global,
     graph: &DeclaredGraph<'_, '_>,
 ) -> Result<Option<String>, AllocError> {
-    let Some(lacking) = first_filtered(alloc, graph)? else {
+    let Some(lacking) = first_filtered_out(alloc, graph)? else {
         return Ok(None);
     };
     let lack = shown_lack(alloc, graph, &lacking)?;

@@ -7,7 +7,7 @@ use crate::reading::{Input, Rejected};
 use crate::requested::{current_node, names_of, reject_unknown, split_by_root};
 use cargo_features::{BuildOptions, Claim, Resolved, resolve};
 use cargo_metadata::fields::text_at;
-use declared_features::{Declarations, Described, RequestedFeatures, described_features};
+use declared_features::{Declarations, RequestedFeatures, ResolverInput, resolver_input};
 use key_answers::answer::{QueryError, argument_error};
 use key_answers::printing::shown_name;
 use known_targets::{KnownTarget, TargetSet};
@@ -188,7 +188,7 @@ fn resolved_of<'a>(
 ) -> Result<Resolution, Rejected> {
     let graph = input.declaring(alloc)?;
     reject_unknown(alloc, &graph, features)?;
-    let Described { packages, edges } = described_features(alloc, &graph, features)?;
+    let ResolverInput { packages, edges } = resolver_input(alloc, &graph, features)?;
     let resolved = resolve(alloc, packages, build)?;
     match lacking_reason(alloc, &graph, &resolved, features)? {
         Some(reason) => Err(Rejected::Document(reason)),

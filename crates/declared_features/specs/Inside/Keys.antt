@@ -11,7 +11,7 @@ use Rattle.cargo_metadata.specs.declared.nodes.Kind.TheVariants.{Normal, Build, 
 use Rattle.declared_features.specs.Edges.{name_at}
 use Rattle.declared_features.specs.MissingEdges.{IsEdgeAt}
 use Rattle.declared_features.specs.declared.declaring.DeclaredGraph.{DeclaredGraph}
-use Rattle.declared_features.specs.declared.declaring.Row.{Row}
+use Rattle.declared_features.specs.declared.declaring.DependencyRow.{DependencyRow}
 
 -- the name of a package, a condition and a kind
 abbrev pub EdgeKey : Type 0
@@ -36,7 +36,7 @@ abbrev pub HasKey : BTreeSet StoredKey → EdgeKey → Type 0
 HasKey keys key = IsTrue (contains_by (key_cmp key) keys)
 
 -- the key is that of the row
-pub record IsKeyOf (graph : DeclaredGraph) (row : Row) (key : EdgeKey) : Type 0 where
+pub record IsKeyOf (graph : DeclaredGraph) (row : DependencyRow) (key : EdgeKey) : Type 0 where
   pub to : name_at graph row.linked.to ≡ key.0.0
   pub condition : option_copied row.kind.condition ≡ Some key.0.1
   pub kind : row.kind.kind ≡ key.1
@@ -47,6 +47,6 @@ AddsKeys old new P = (key : EdgeKey) → HasKey new key ↔ (HasKey old key ⊎ 
 
 -- an edge of the node has the key
 pub record HasEdgeWith (graph : DeclaredGraph) (node : ℕ) (key : EdgeKey) : Type 0 where
-  pub row : Row
+  pub row : DependencyRow
   pub there : IsEdgeAt graph node row
   pub key_is : IsKeyOf graph row key

@@ -9,9 +9,9 @@ use Rattle.declared_features.specs.Manifests.{manifest_at, dependencies_in}
 use Rattle.declared_features.specs.Requests.{IsLink, IsNamedOf}
 use Rattle.declared_features.specs.Inside.Links.{IsLinkBelow}
 use Rattle.declared_features.specs.Inside.Names.{index_in}
-use Rattle.declared_features.specs.declared.declaring.Row.{Row}
+use Rattle.declared_features.specs.declared.declaring.DependencyRow.{DependencyRow}
 use Rattle.declared_features.specs.declared.linking.Named.{Named}
-use Rattle.declared_features.specs.declared.manifests.Declared.{Declared}
+use Rattle.declared_features.specs.declared.manifests.DeclaredDependency.{DeclaredDependency}
 use Rattle.declared_features.specs.declared.manifests.Manifest.{Manifest}
 use Rattle.declared_features.proofs.Matching.{matches_none, matches_as, matches_more}
 use Rattle.declared_features.proofs.Describing.{link_first, link_more, link_before, link_here, link_row, row_link}
@@ -47,7 +47,7 @@ declared-preserved c =
     let j = c.declared.j in
     let row = c.index-row.result.now in
     let d = c.index-declared.result.now in
-    let R : Row × Declared → Named → Type 0 =
+    let R : DependencyRow × DeclaredDependency → Named → Type 0 =
     λ link found. IsNamedOf (index_in c.args.names.now) node link.0 link.1 found in
     let items = λ (v : Vec Named Global). v.items in
     let row_below : i < length rows.items = omega (arith, c.rows-test.true, c.len-i-end.ensures, rows.ok.0) in
@@ -131,12 +131,12 @@ returns c =
     let node = c.args.node in
     let rows = c.in_ok-rows.rows in
     let ds = c.in-Some.manifest.now.dependencies.items in
-    let R : Row × Declared → Named → Type 0 =
+    let R : DependencyRow × DeclaredDependency → Named → Type 0 =
     λ link found. IsNamedOf (index_in c.args.names.now) node link.0 link.1 found in
     let past : length rows.items ≤ c.rows.i =
     omega (arith, c.rows-test.false, c.len-i-end.ensures, rows.ok.0) in
     let whole : MatchesJust (IsLink graph node rows.items ds) R c.rows.found.items =
-    subst (λ (l : List Row). MatchesJust (IsLink graph node l ds) R c.rows.found.items)
+    subst (λ (l : List DependencyRow). MatchesJust (IsLink graph node l ds) R c.rows.found.items)
     (take_all c.rows.i rows.items past) c.rows.invariant in
     record {
       rows = rows.items;

@@ -11,12 +11,12 @@ use Rattle.cargo_metadata.specs.declared.refusals.FieldError.{FieldError}
 use Rattle.cargo_metadata.proofs.Elements.{list_fits, wrong_second}
 use Rattle.declared_features.specs.Documents.{IsDeclared}
 use Rattle.declared_features.specs.Refusals.{IsInManifest}
-use Rattle.declared_features.specs.declared.manifests.Declared.{Declared}
+use Rattle.declared_features.specs.declared.manifests.DeclaredDependency.{DeclaredDependency}
 use Rattle.declared_features.specs.declared.manifests.ManifestError.TheVariants as in_manifest
 use Rattle.declared_features.proofs.manifests.manifest_of.Goals as goal
 
 -- the error in the features, after dependencies that were read
-lacks_features : (d : Data) (declared : List Declared) → AreRowsAt IsDeclared (codes "dependencies") d declared
+lacks_features : (d : Data) (declared : List DeclaredDependency) → AreRowsAt IsDeclared (codes "dependencies") d declared
     → fits expected.Features (get (codes "features") d) ≡ false → (wrong : FieldError) → wrong.field.now ≡ codes "features"
     → wrong.expected ≡ expected.Features → IsInManifest d (in_manifest.Field wrong)
 lacks_features d declared rows misfits wrong field what = (

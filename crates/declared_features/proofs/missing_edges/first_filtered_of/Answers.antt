@@ -5,7 +5,7 @@ use Rattle.std.specs.Prelude.{Any}
 use Rattle.serde_json.specs.View.{view}
 use Rattle.declared_features.specs.Manifests.{dependencies_in, features_in}
 use Rattle.declared_features.specs.NameSets.{HasJustNames}
-use Rattle.declared_features.specs.declared.manifests.Declared.{Declared}
+use Rattle.declared_features.specs.declared.manifests.DeclaredDependency.{DeclaredDependency}
 use Rattle.declared_features.specs.declared.manifests.Manifest.{Manifest}
 use Rattle.declared_features.specs.MissingEdges.{MayBeFiltered, IsFilteredOut, IsTurnedOnIn, IsFirst}
 use Rattle.declared_features.proofs.First.{none_next, none_end, first_here}
@@ -30,7 +30,7 @@ returns-then-not-may_be_filtered_any-clause-none c some =
     any_as (IsFilteredOut graph c.args.node) (MayBeFiltered graph c.args.node) ds (λ d is. is.may_be) here in
     let yes =
     c.may_be_filtered_any.ensures
-    (subst (λ (l : List Declared). Any (MayBeFiltered graph c.args.node) l) (sym c.deref.ensures.value) may_be) in
+    (subst (λ (l : List DeclaredDependency). Any (MayBeFiltered graph c.args.node) l) (sym c.deref.ensures.value) may_be) in
     let no = c.if-not-may_be_filtered_any.true in
     cc
 

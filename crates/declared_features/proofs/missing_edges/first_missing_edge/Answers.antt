@@ -3,7 +3,7 @@ use Rattle.std.proofs.Common.{Bool, true, false}
 use Rattle.std.proofs.Common.{length, take, get_or, sym, refl, ap, subst, arith, map}
 use Rattle.std.specs.Prelude.{Any, IfNone, IfSome}
 use Rattle.declared_features.specs.Manifests.{dependencies_at}
-use Rattle.declared_features.specs.declared.manifests.Declared.{Declared}
+use Rattle.declared_features.specs.declared.manifests.DeclaredDependency.{DeclaredDependency}
 use Rattle.cargo_features.specs.Inside.Numbered.{AreNumbers}
 use Rattle.declared_features.specs.MissingEdges.{IsNewlyEnabled, IsFirst}
 use Rattle.declared_features.proofs.First.{none_below}
@@ -14,7 +14,7 @@ nodes-preserved c numbers =
     let graph = c.args.graph.now in
     let P = IsNewlyEnabled graph c.args.resolved.now c.args.requested.now in
     let none : ¬ Any (P c.nodes.node) (dependencies_at graph.declared.now c.nodes.node) =
-    (subst (λ (o : Option (Bor Declared)). IfNone o
+    (subst (λ (o : Option (Bor DeclaredDependency)). IfNone o
     (AreNumbers c.args.resolved.now.packages.items c.args.resolved.now.found.numbers
     → ¬ Any (P c.nodes.node) (dependencies_at graph.declared.now c.nodes.node))) c.in_default.is
     c.in_ok-declared.ensures.none) numbers in
@@ -28,7 +28,7 @@ returns-in-Some-clause-found c numbers =
     record {
       node = omega (arith, c.nodes-test.true, c.len-node-end.ensures, nodes.ok.0);
       declared =
-          (subst (λ (o : Option (Bor Declared)). IfSome o
+          (subst (λ (o : Option (Bor DeclaredDependency)). IfSome o
           (λ d. AreNumbers c.args.resolved.now.packages.items c.args.resolved.now.found.numbers
           → IsFirst (P c.nodes.node) (dependencies_at graph.declared.now c.nodes.node) d.now)) c.in-Some.is
           c.in_ok-declared.ensures.found) numbers;

@@ -4,7 +4,7 @@ use Rattle.std.proofs.Common.{length, take, get_or, sym, refl, ap, subst, arith,
 use Rattle.std.specs.Prelude.{Any}
 use Rattle.declared_features.specs.Edges.{IsOf}
 use Rattle.declared_features.specs.MissingEdges.{HasEdge}
-use Rattle.declared_features.specs.declared.declaring.Row.{Row}
+use Rattle.declared_features.specs.declared.declaring.DependencyRow.{DependencyRow}
 use Rattle.declared_features.proofs.First.{none_next, none_end}
 use Rattle.declared_features.proofs.EdgeKeys.{edge_of_row, row_of_edge, edge_moves}
 use Rattle.declared_features.proofs.missing_edges.has_edge.Goals as goal
@@ -33,7 +33,7 @@ returns c =
     let graph = c.args.graph.now in
     let rows = c.in_ok-rows.rows in
     let past : length rows.items ≤ c.rows.i = omega (arith, c.rows-test.false, c.len-i-end.ensures, rows.ok.0) in
-    let P = λ (row : Row). IsOf graph c.args.node row c.args.declared.now in (
+    let P = λ (row : DependencyRow). IsOf graph c.args.node row c.args.declared.now in (
       λ h. absurd (let no : false ≡ true = h in cc),
       λ has. absurd (none_end P rows.items c.rows.i past c.rows.invariant
           (row_of_edge graph c.args.node rows.items P (edge_moves graph c.args.node c.args.declared.now)

@@ -1,6 +1,6 @@
 use Rattle.std.proofs.Common.{take}
 use Rattle.declared_features.specs.Rows.{kinds_of, AreRowsOf}
-use Rattle.declared_features.proofs.declaring.rows_of.Given as goal
+use Rattle.declared_features.proofs.declaring.dependency_rows.Given as goal
 
 abbrev pub invariant-edges : goal.invariant-edges
 invariant-edges l =

@@ -10,7 +10,7 @@ use Rattle.package_graphs.specs.declared.packages.Package.{Package as Unit}
 use Rattle.declared_features.specs.Rows.{EdgeKind, kinds_by, kinds_of, kinds_in, links_in, kinds_at, links_at}
 use Rattle.declared_features.specs.Rows.{AreRowsOf}
 use Rattle.declared_features.proofs.Placing.{rows_none, edges_more}
-use Rattle.declared_features.proofs.declaring.rows_of.Goals as goal
+use Rattle.declared_features.proofs.declaring.dependency_rows.Goals as goal
 
 pub returns-then-node-len : goal.returns-then-node-len
 returns-then-node-len c =

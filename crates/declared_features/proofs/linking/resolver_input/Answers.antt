@@ -5,7 +5,7 @@ use Rattle.declared_features.specs.Members.{FeatureIndexes}
 use Rattle.declared_features.specs.Inside.Names.{index_in}
 use Rattle.declared_features.proofs.Describing.{described_more, described_grown}
 use Rattle.declared_features.proofs.Placing.{length_push}
-use Rattle.declared_features.proofs.linking.described_features.Goals as goal
+use Rattle.declared_features.proofs.linking.resolver_input.Goals as goal
 
 pub nodes-init : goal.nodes-init
 nodes-init c = (

@@ -1,7 +1,7 @@
 use Rattle.std.proofs.Common.{◌≡◌, ℕ, ◌<◌, length}
 use Rattle.declared_features.specs.Described.{IsDescribedAt}
 use Rattle.declared_features.specs.Inside.Names.{index_in}
-use Rattle.declared_features.proofs.linking.described_features.Given as goal
+use Rattle.declared_features.proofs.linking.resolver_input.Given as goal
 
 abbrev pub invariant-nodes : goal.invariant-nodes
 invariant-nodes l =

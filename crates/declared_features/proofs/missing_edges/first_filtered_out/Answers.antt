@@ -3,16 +3,16 @@ use Rattle.std.proofs.Common.{Bool, true, false}
 use Rattle.std.proofs.Common.{length, take, get_or, sym, refl, ap, subst, arith, map}
 use Rattle.std.specs.Prelude.{Any, IfNone}
 use Rattle.declared_features.specs.Manifests.{dependencies_at}
-use Rattle.declared_features.specs.declared.manifests.Declared.{Declared}
+use Rattle.declared_features.specs.declared.manifests.DeclaredDependency.{DeclaredDependency}
 use Rattle.declared_features.specs.MissingEdges.{IsFilteredOut}
 use Rattle.declared_features.proofs.First.{none_below}
-use Rattle.declared_features.proofs.missing_edges.first_filtered.Goals as goal
+use Rattle.declared_features.proofs.missing_edges.first_filtered_out.Goals as goal
 
 pub nodes-preserved : goal.nodes-preserved
 nodes-preserved c =
     let graph = c.args.graph.now in
     none_below (λ k. Any (IsFilteredOut graph k) (dependencies_at graph.declared.now k)) c.nodes.node c.nodes.invariant
-    (subst (λ (o : Option (Bor Declared)). IfNone o
+    (subst (λ (o : Option (Bor DeclaredDependency)). IfNone o
     (¬ Any (IsFilteredOut graph c.nodes.node) (dependencies_at graph.declared.now c.nodes.node))) c.in_default.is
     c.in_ok-declared.ensures.none)
 
