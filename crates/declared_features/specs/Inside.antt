@@ -1,4 +1,2 @@
 pub mod Names
 pub mod Links
-pub mod Keys
-pub mod Newly

@@ -10,6 +10,4 @@ pub mod Requests
 pub mod Requested
 pub mod Activation
 pub mod Described
-pub mod NameSets
-pub mod MissingEdges
 pub mod Inside

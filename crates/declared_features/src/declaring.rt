@@ -1,27 +1,22 @@
 //! A graph of packages with what each of them declares, and the edges of declared dependencies.
 
 ghost use Rattle.std.specs.Prelude.{◌≡◌, ◌==◌, ◌↔◌, ◌++◌, ℕ, cond, codes, length, map, IsTrue, IfOk, IfErr, OnOk, List};
-ghost use Rattle.std.specs.Prelude.{None, is_some, option_map, slice_get};
 ghost use Rattle.std.specs.Option.{option_copied};
 ghost use Rattle.serde_json.specs.View.{view};
 ghost use Rattle.cargo_metadata.specs.Indexes.{index_at};
 ghost use Rattle.cargo_metadata.specs.Rows.{AreRowsAt};
 ghost use Rattle.declared_features.specs.Documents.{IsManifest};
 ghost use Rattle.declared_features.specs.Refusals.{IsRefused};
-ghost use Rattle.declared_features.specs.Manifests.{index_of_id, package_index, manifest_at, IsWithoutLibrary};
-ghost use Rattle.declared_features.specs.MissingEdges.{HasNoLibrary};
-ghost use Rattle.declared_features.specs.NameSets.{HasJustNames};
+ghost use Rattle.declared_features.specs.Manifests.{index_of_id, package_index, manifest_at};
 ghost use Rattle.declared_features.specs.Rows.{EdgeKind, kinds_by, kinds_at, links_at, AreRowsOf};
 ghost use Rattle.declared_features.specs.Edges.{AreSame, IsLike, IsOf, name_at, code_name};
 
 use crate::manifests::{DeclarationsError, DeclaredDependency, Manifest, read_manifests};
-use crate::name_sets::add_name;
 use cargo_metadata::graphs::Linked;
 use cargo_metadata::{Dependency as Edge, Indexes, KindRow, Metadata, Package};
 use package_graphs::Dependency as LinkedEdge;
 use serde_json::Value;
 use std::alloc::{AllocError, Global};
-use std::collections::BTreeSet;
 
 /// The declarations of the packages of a document.
 #[derive(Drop)]
@@ -30,8 +25,8 @@ pub struct Declarations<'a> {
     manifests: Vec<Manifest<'a>>,
     /// For each node, the index of its package among those of the document.
     package_indexes: Vec<usize>,
-    /// The names of the packages without a library. Cargo gives no edge to a dependency on such a package.
-    without_library: BTreeSet<&'a str>,
+    /// The names of the packages without a library, sorted. Cargo gives no edge to a dependency on such a package.
+    without_library: Vec<&'a str>,
 }
 
 /// Returns the indexes of the packages by id.
@@ -59,33 +54,19 @@ fn package_indexes<'a>(alloc: Global, metadata: &Metadata<'a>) -> Result<Vec<usi
     Ok(indexes)
 }
 
-/// Returns the name of the package at an index, if it has no library.
-fn name_without_library<'a>(
-    metadata: &Metadata<'a>,
-    manifest: &Manifest<'a>,
-    index: usize,
-) -> Option<&'a str>
-    ensures { option_copied result ≡ cond (is_some manifest.now.library) None
-        (option_map (λ p. p.name.now) (slice_get metadata.now.packages.items index)) }
-{
-    if manifest.library.is_some() {
-        return None;
-    }
-    Some(metadata.packages.get(index)?.name)
-}
-
-/// Returns the names of the packages without a library.
+/// Returns the names of the packages without a library, sorted.
 fn without_library<'a>(
     alloc: Global,
     metadata: &Metadata<'a>,
     manifests: &[Manifest<'a>],
-) -> Result<BTreeSet<&'a str>, AllocError>
-    ensures { IfOk result (λ names. HasJustNames names (IsWithoutLibrary metadata.now.packages.items manifests.now)) }
-{
-    let mut names = BTreeSet::new(alloc);
-    'manifests: for i in 0..manifests.len() {
-        add_name(name_without_library(metadata, &manifests[i], i), &mut names)?;
+) -> Result<Vec<&'a str>, AllocError> {
+    let mut names = Vec::new(alloc);
+    for i in 0..manifests.len() {
+        if let (None, Some(package)) = (manifests[i].library, metadata.packages.get(i)) {
+            names.push(package.name)?;
+        }
     }
+    names.sort()?;
     Ok(names)
 }
 
@@ -98,8 +79,6 @@ fn declarations_of<'a>(
     ensures manifests { IfOk result (λ declarations. declarations.manifests.items ≡ manifests.entry.items) }
     ensures packages { IfOk result (λ declarations. declarations.package_indexes.items
         ≡ map (package_index metadata.now.packages.items) metadata.now.nodes.items) }
-    ensures without_library { IfOk result (λ declarations. HasJustNames declarations.without_library
-        (IsWithoutLibrary metadata.now.packages.items manifests.entry.items)) }
 {
     let package_indexes = package_indexes(alloc, metadata)?;
     let without_library = without_library(alloc, metadata, &manifests)?;
@@ -128,9 +107,6 @@ impl<'a> Declarations<'a> {
         // The manifest of a node is that of the first package with its id.
         ensures packages { IfOk result (λ it. it.package_indexes.items
             ≡ map (package_index metadata.now.packages.items) metadata.now.nodes.items) }
-        // The names of the packages whose manifest has no library are known.
-        ensures without_library { IfOk result (λ it. HasJustNames it.without_library
-            (IsWithoutLibrary metadata.now.packages.items it.manifests.items)) }
         // Unless memory is refused, an error is the first one of the document. The packages are read in order, and of
         // each first the dependencies in order, and then the features.
         ensures refused { IfErr result (λ refusal. IsRefused (view document.now) refusal) }
@@ -158,11 +134,10 @@ impl<'a> Declarations<'a> {
     }
 
     /// Returns whether Cargo gives no edge to a declared dependency, since its package has no library.
-    pub fn has_no_library(&self, declared: &DeclaredDependency<'a>) -> bool
-        // The result is true exactly if a package of the dependency's name has no library.
-        ensures { IsTrue result ↔ HasNoLibrary self.now declared.now }
-    {
-        self.without_library.contains(declared.name)
+    pub fn has_no_library(&self, declared: &DeclaredDependency<'a>) -> bool {
+        self.without_library
+            .binary_search_by(|name| (*name).cmp(declared.name))
+            .is_ok()
     }
 }
 
