@@ -81,7 +81,6 @@ struct Rules<'a> {
 #[derive(Drop)]
 struct LintRun<'a> {
     options: &'a LintOptions,
-    known_facts: &'a KnownFacts,
     /// The manifests that have been read.
     documents: ManifestCache,
     counts: Counts,
@@ -230,16 +229,12 @@ impl<'a> LintRun<'a> {
         &mut self,
         alloc: Global,
         root: &mut Root,
-        checked: &CheckedManifest<'_, '_>,
+        settings: &Settings,
+        manifest: &Manifest,
+        found: &[Diagnostic],
     ) -> Result<(), AllocError> {
-        let CheckedManifest {
-            manifest,
-            settings,
-            ..
-        } = checked;
         let options = self.options;
-        let found = found_in(alloc, root, checked)?;
-        let occurrences = occurrences_in(alloc, &found)?;
+        let occurrences = occurrences_in(alloc, found)?;
         root.note_needed(&occurrences);
         let rules = Rules {
             of_workspace: &root.settings.rules,
@@ -250,7 +245,7 @@ impl<'a> LintRun<'a> {
             path: manifest.path.as_str(),
             text: manifest.document.locations.text.as_str(),
         };
-        self.report_each(alloc, &rules, &source, &found)?;
+        self.report_each(alloc, &rules, &source, found)?;
         let locations = &manifest.document.locations;
         let found = found_in_settings(alloc, settings, locations, &occurrences)?;
         self.report_each(alloc, &rules, &source, &found)
@@ -319,16 +314,30 @@ fn found_in_settings(
     Ok(found)
 }
 
-/// A manifest that was checked: the report on its keys, its settings, and the diagnostics that are not in the report.
+/// The settings of a package, and the diagnostics on its manifest that are not in the report.
 #[derive(Drop)]
-struct CheckedManifest<'c, 'm> {
-    manifest: &'c Manifest,
-    report: &'c Report<'m>,
-    settings: &'c Settings,
+struct Beside<'s> {
+    settings: &'s Settings,
     /// The names that rustc knew only until some release.
     formers: FormerNames,
     /// The diagnostics on misplaced tables and unread fields.
     wrong: Vec<TableDiagnostic>,
+}
+
+impl<'a> LintRun<'a> {
+    /// Reports the diagnostics on a manifest.
+    fn report_findings(
+        &mut self,
+        alloc: Global,
+        root: &mut Root,
+        manifest: &Manifest,
+        report: &Report<'_>,
+        beside: &Beside<'_>,
+    ) -> Result<(), AllocError> {
+        let locations = &manifest.document.locations;
+        let found = found_in(alloc, root, locations, report, beside)?;
+        self.report_on_manifest(alloc, root, beside.settings, manifest, &found)
+    }
 }
 
 /// Returns the properties of diagnostics on which rules depend.
@@ -344,20 +353,20 @@ fn occurrences_in(alloc: Global, found: &[Diagnostic]) -> Result<Vec<Occurrence<
 
 /// Returns whether the settings of a package or of its workspace make a target known, or whether rustc knew it before,
 /// which is another diagnostic.
-fn is_known(root: &Root, checked: &CheckedManifest<'_, '_>, name: &str) -> bool {
+fn is_known(root: &Root, beside: &Beside<'_>, name: &str) -> bool {
     root.settings.knows_target(name)
-        || checked.settings.knows_target(name)
-        || checked.formers.has_target(name)
+        || beside.settings.knows_target(name)
+        || beside.formers.has_target(name)
 }
 
 /// Returns whether a finding is not reported. If the lints of a manifest can't be read, nobody can tell which facts it
 /// declares.
-fn is_left_out(root: &Root, checked: &CheckedManifest<'_, '_>, finding: &Finding) -> bool {
+fn is_left_out(root: &Root, report: &Report<'_>, beside: &Beside<'_>, finding: &Finding) -> bool {
     match finding.code {
         KeyLint::Custom => root.hides_lints,
         KeyLint::UnknownTarget => match finding.key {
-            Some(place) => match checked.report.keys.get(place) {
-                Some(key) => is_known(root, checked, key.text),
+            Some(place) => match report.keys.get(place) {
+                Some(key) => is_known(root, beside, key.text),
                 None => false,
             },
             None => false,
@@ -378,20 +387,20 @@ struct OnKey {
 fn found_on_keys(
     alloc: Global,
     root: &Root,
-    checked: &CheckedManifest<'_, '_>,
+    locations: &SourceMap,
+    report: &Report<'_>,
+    beside: &Beside<'_>,
 ) -> Result<Vec<OnKey>, AllocError> {
-    let locations = &checked.manifest.document.locations;
-    let report = checked.report;
     let mut found = Vec::new(alloc);
     for finding in &report.findings {
-        if !is_left_out(root, checked, finding) {
+        if !is_left_out(root, report, beside, finding) {
             found.push(OnKey {
                 index: finding.key.unwrap_or(0),
                 diagnostic: diagnostic_of(alloc, locations, report, finding)?,
             })?;
         }
     }
-    for diagnostic in formers_in(alloc, locations, &checked.formers)? {
+    for diagnostic in formers_in(alloc, locations, &beside.formers)? {
         let mut keys = report.keys.iter();
         let index = keys.position(|it| diagnostic.key() == Some(it.text));
         found.push(OnKey {
@@ -407,17 +416,18 @@ fn found_on_keys(
 fn found_in(
     alloc: Global,
     root: &Root,
-    checked: &CheckedManifest<'_, '_>,
+    locations: &SourceMap,
+    report: &Report<'_>,
+    beside: &Beside<'_>,
 ) -> Result<Vec<Diagnostic>, AllocError> {
     let mut found = Vec::new(alloc);
     for OnKey {
         index: _,
         diagnostic,
-    } in found_on_keys(alloc, root, checked)? {
+    } in found_on_keys(alloc, root, locations, report, beside)? {
         found.push(diagnostic)?;
     }
-    let locations = &checked.manifest.document.locations;
-    for it in &checked.wrong {
+    for it in &beside.wrong {
         found.push(diagnostic_of_wrong(alloc, locations, it)?)?;
     }
     Ok(found)
@@ -461,15 +471,22 @@ fn print_report(
     alloc: Global,
     root: &mut Root,
     run: &mut LintRun<'_>,
-    checked: &CheckedManifest<'_, '_>,
+    manifest: &Manifest,
+    report: &Report<'_>,
+    beside: &Beside<'_>,
 ) -> Result<(), AllocError> {
-    run.report_on_manifest(alloc, root, checked)?;
-    let path = checked.manifest.path.as_str();
-    if run.options.is_verbose && checked.report.keys.is_empty() {
+    run.report_findings(alloc, root, manifest, report, beside)?;
+    if run.options.is_verbose && report.keys.is_empty() {
+        let path = manifest.path.as_str();
         let line = format!(in alloc; "{path}: no key of `target` to check\n")?;
         run.answer.errors.push_str(line.as_str())?;
     }
-    push_undecided(&mut run.answer.errors, alloc, path, checked.report)
+    push_undecided(
+        &mut run.answer.errors,
+        alloc,
+        manifest.path.as_str(),
+        report,
+    )
 }
 
 /// Finds the names in a manifest that rustc knew only until some release, and declares their facts.
@@ -499,6 +516,7 @@ fn report_on<'m>(
 fn lint_configuration<R: Files + Input + AllocGlobal>(
     rt: &R,
     path: &str,
+    known_facts: &KnownFacts,
     root: &mut Root,
     run: &mut LintRun<'_>,
 ) -> Result<(), AllocError> {
@@ -522,24 +540,23 @@ fn lint_configuration<R: Files + Input + AllocGlobal>(
     };
     let formers = declare_formers(alloc, &mut table, &project)?;
     manifest.document.table = table;
-    let mut report = report_on(alloc, &manifest, run.known_facts, other)?;
+    let mut report = report_on(alloc, &manifest, known_facts, other)?;
     root.hides_lints = false;
     explain_unsupported(alloc, &mut report.findings)?;
     run.counts.add_configuration(report.keys.len());
-    let checked = CheckedManifest {
-        manifest: &manifest,
-        report: &report,
+    let beside = Beside {
         settings: &settings,
         formers,
         wrong,
     };
-    print_report(alloc, root, run, &checked)
+    print_report(alloc, root, run, &manifest, &report, &beside)
 }
 
 /// Lints the manifest at a path, or reports that it can't be used.
 fn lint_at<R: Files + Input + Env + AllocGlobal>(
     rt: &R,
     path: &str,
+    known_facts: &KnownFacts,
     root: &mut Root,
     run: &mut LintRun<'_>,
 ) -> Result<(), AllocError> {
@@ -568,30 +585,29 @@ fn lint_at<R: Files + Input + Env + AllocGlobal>(
         targets: former_targets(other),
     };
     let formers = declare_formers(alloc, table, &project)?;
-    let report = report_on(alloc, &manifest, run.known_facts, other)?;
+    let report = report_on(alloc, &manifest, known_facts, other)?;
     let wrong = table_diagnostics(alloc, &manifest.document.table)?;
     run.counts.add_manifest(report.keys.len());
-    let checked = CheckedManifest {
-        manifest: &manifest,
-        report: &report,
+    let beside = Beside {
         settings: &settings,
         formers,
         wrong,
     };
-    print_report(alloc, root, run, &checked)
+    print_report(alloc, root, run, &manifest, &report, &beside)
 }
 
 /// Lints a file, a configuration or a manifest.
 fn lint_file<R: Files + Input + Env + AllocGlobal>(
     rt: &R,
     path: &str,
+    known_facts: &KnownFacts,
     root: &mut Root,
     run: &mut LintRun<'_>,
 ) -> Result<(), AllocError> {
     if is_configuration(path) {
-        lint_configuration(rt, path, root, run)
+        lint_configuration(rt, path, known_facts, root, run)
     } else {
-        lint_at(rt, path, root, run)
+        lint_at(rt, path, known_facts, root, run)
     }
 }
 
@@ -599,6 +615,7 @@ fn lint_file<R: Files + Input + Env + AllocGlobal>(
 fn fixes_for<R: Files + Input + Env + AllocGlobal>(
     rt: &R,
     path: &str,
+    known_facts: &KnownFacts,
     root: &mut Root,
     run: &mut LintRun<'_>,
 ) -> Result<Option<Fixes>, AllocError> {
@@ -610,17 +627,15 @@ fn fixes_for<R: Files + Input + Env + AllocGlobal>(
     let none = ManifestCache::new(alloc, run.documents.limit);
     let mut collecting = LintRun {
         options: run.options,
-        known_facts: run.known_facts,
         documents: mem::replace(&mut run.documents, none),
         counts: Counts::none(),
         printed: Printer::new(alloc, run.options.style),
         answer: Answer::of(alloc, String::new(alloc), Status::Fine),
         fixes: Some(Fixes::new(alloc, fixing)),
     };
-    lint_file(rt, path, root, &mut collecting)?;
+    lint_file(rt, path, known_facts, root, &mut collecting)?;
     let LintRun {
         options: _,
-        known_facts: _,
         documents,
         counts: _,
         printed: _,
@@ -636,14 +651,15 @@ fn fixes_for<R: Files + Input + Env + AllocGlobal>(
 fn lint_fixed<R: Files + Input + Env + AllocGlobal>(
     rt: &R,
     path: &str,
+    known_facts: &KnownFacts,
     root: &mut Root,
     run: &mut LintRun<'_>,
 ) -> Result<(), AllocError> {
-    if let Some(fixes) = fixes_for(rt, path, root, run)? {
+    if let Some(fixes) = fixes_for(rt, path, known_facts, root, run)? {
         let answer = fix_file(rt, &mut run.documents, path, fixes)?;
         run.answer.append(answer)?;
     }
-    lint_file(rt, path, root, run)
+    lint_file(rt, path, known_facts, root, run)
 }
 
 /// Returns whether one of the paths leads to the file.
@@ -664,11 +680,12 @@ fn lint_named<R: Files + Input + Env + AllocGlobal>(
     rt: &R,
     paths: &[&str],
     path: &str,
+    known_facts: &KnownFacts,
     root: &mut Root,
     run: &mut LintRun<'_>,
 ) -> Result<(), AllocError> {
     let alloc = rt.alloc();
-    lint_fixed(rt, path, root, run)?;
+    lint_fixed(rt, path, known_facts, root, run)?;
     if is_configuration(path) || !root.is_at(alloc, path)? {
         return Ok(());
     }
@@ -678,7 +695,7 @@ fn lint_named<R: Files + Input + Env + AllocGlobal>(
             if has_path(alloc, paths, file.as_str())? {
                 return Ok(());
             }
-            lint_fixed(rt, file.as_str(), root, run)
+            lint_fixed(rt, file.as_str(), known_facts, root, run)
         }
         None => Ok(()),
     }
@@ -707,7 +724,6 @@ pub fn lint_each<R: Files + Input + Env + AllocGlobal>(
     let begin = printed.begin(alloc, options.version.as_str())?;
     let mut run = LintRun {
         options,
-        known_facts: &known_facts,
         documents,
         counts: Counts::none(),
         printed,
@@ -726,12 +742,11 @@ pub fn lint_each<R: Files + Input + Env + AllocGlobal>(
             other.read_targets(rt, run.documents.limit, options.other.as_ref())?;
             root = other;
         }
-        lint_named(rt, paths, path, &mut root, &mut run)?;
+        lint_named(rt, paths, path, &known_facts, &mut root, &mut run)?;
     }
     run.report_on_root(rt, &mut root)?;
     let LintRun {
         options: _,
-        known_facts: _,
         documents: _,
         counts,
         printed,
