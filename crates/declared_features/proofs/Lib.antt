@@ -1,8 +1,13 @@
-pub mod Spelling
 pub mod Collecting
+pub mod Spelling
 pub mod Placing
 pub mod Positions
 pub mod Matching
 pub mod Activating
 pub mod Describing
 pub mod Rejecting
+pub mod Growing
+pub mod First
+pub mod EdgeKeys
+pub mod Enabling
+pub mod Missing

@@ -1,2 +1,4 @@
 pub mod Names
 pub mod Links
+pub mod Keys
+pub mod Newly

@@ -10,4 +10,6 @@ pub mod Requests
 pub mod Requested
 pub mod Activation
 pub mod Described
+pub mod NameSets
+pub mod MissingEdges
 pub mod Inside

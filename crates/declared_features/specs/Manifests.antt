@@ -1,5 +1,5 @@
 -- What the packages of nodes declare.
-use Rattle.std.specs.Prelude.{ℕ, List, [], Option, Some, None, bytes_eq, slice_get, length}
+use Rattle.std.specs.Prelude.{◌≡◌, ℕ, List, [], Option, Some, None, bytes_eq, slice_get, length}
 use Rattle.std.specs.Prelude.{option_and_then, unwrap_or}
 use Rattle.std.specs.List.{position_from}
 use Rattle.cargo_metadata.specs.declared.nodes.Node.{Node}
@@ -38,3 +38,13 @@ features_at declarations node = features_in (manifest_at declarations node)
 
 abbrev pub dependencies_at : Declarations → ℕ → List DeclaredDependency
 dependencies_at declarations node = dependencies_in (manifest_at declarations node)
+
+-- a package of this name has no library
+pub record IsWithoutLibrary (packages : List Package) (manifests : List Manifest) (name : List ℕ) : Type 0 where
+  pub index : ℕ
+  pub unit : Package
+  pub manifest : Manifest
+  pub there : slice_get packages index ≡ Some unit
+  pub declares : slice_get manifests index ≡ Some manifest
+  pub named : unit.name.now ≡ name
+  pub none : manifest.library ≡ None

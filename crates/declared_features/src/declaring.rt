@@ -1,22 +1,26 @@
 //! A graph of packages with what each of them declares, and the edges of declared dependencies.
 
 ghost use Rattle.std.specs.Prelude.{◌≡◌, ◌==◌, ◌↔◌, ◌++◌, ℕ, cond, codes, length, map, IsTrue, IfOk, IfErr, OnOk, List};
+ghost use Rattle.std.specs.Prelude.{None, is_some, option_map, slice_get};
 ghost use Rattle.std.specs.Option.{option_copied};
 ghost use Rattle.serde_json.specs.View.{view};
 ghost use Rattle.cargo_metadata.specs.Indexes.{index_at};
 ghost use Rattle.cargo_metadata.specs.Rows.{AreRowsAt};
 ghost use Rattle.declared_features.specs.Documents.{IsManifest};
 ghost use Rattle.declared_features.specs.Refusals.{IsRefused};
-ghost use Rattle.declared_features.specs.Manifests.{index_of_id, package_index, manifest_at};
+ghost use Rattle.declared_features.specs.Manifests.{index_of_id, package_index, manifest_at, IsWithoutLibrary};
+ghost use Rattle.declared_features.specs.NameSets.{HasJustNames};
 ghost use Rattle.declared_features.specs.Rows.{EdgeKind, kinds_by, kinds_at, links_at, AreRowsOf};
 ghost use Rattle.declared_features.specs.Edges.{AreSame, IsLike, IsOf, name_at, code_name};
 
 use crate::manifests::{DeclarationsError, DeclaredDependency, Manifest, read_manifests};
+use crate::name_sets::add_name;
 use cargo_metadata::graphs::Linked;
 use cargo_metadata::{Dependency as Edge, Indexes, KindRow, Metadata, Package};
 use package_graphs::Dependency as LinkedEdge;
 use serde_json::Value;
 use std::alloc::{AllocError, Global};
+use std::collections::BTreeSet;
 
 /// The declarations of the packages of a document.
 #[derive(Drop)]
@@ -25,8 +29,6 @@ pub struct Declarations<'a> {
     manifests: Vec<Manifest<'a>>,
     /// For each node, the index of its package among those of the document.
     package_indexes: Vec<usize>,
-    /// The names of the packages without a library, sorted. Cargo gives no edge to a dependency on such a package.
-    without_library: Vec<&'a str>,
 }
 
 /// Returns the indexes of the packages by id.
@@ -54,39 +56,34 @@ fn package_indexes<'a>(alloc: Global, metadata: &Metadata<'a>) -> Result<Vec<usi
     Ok(indexes)
 }
 
-/// Returns the names of the packages without a library, sorted.
+/// Returns the name of the package at an index, if it has no library.
+fn name_without_library<'a>(
+    metadata: &Metadata<'a>,
+    manifest: &Manifest<'a>,
+    index: usize,
+) -> Option<&'a str>
+    ensures { option_copied result ≡ cond (is_some manifest.now.library) None
+        (option_map (λ p. p.name.now) (slice_get metadata.now.packages.items index)) }
+{
+    if manifest.library.is_some() {
+        return None;
+    }
+    Some(metadata.packages.get(index)?.name)
+}
+
+/// Returns the names of the packages without a library.
 fn without_library<'a>(
     alloc: Global,
     metadata: &Metadata<'a>,
     manifests: &[Manifest<'a>],
-) -> Result<Vec<&'a str>, AllocError> {
-    let mut names = Vec::new(alloc);
-    for i in 0..manifests.len() {
-        if let (None, Some(package)) = (manifests[i].library, metadata.packages.get(i)) {
-            names.push(package.name)?;
-        }
-    }
-    names.sort()?;
-    Ok(names)
-}
-
-/// Returns the declarations of the packages of a document, whose manifests were read.
-fn declarations_of<'a>(
-    alloc: Global,
-    metadata: &Metadata<'a>,
-    manifests: Vec<Manifest<'a>>,
-) -> Result<Declarations<'a>, AllocError>
-    ensures manifests { IfOk result (λ declarations. declarations.manifests.items ≡ manifests.entry.items) }
-    ensures packages { IfOk result (λ declarations. declarations.package_indexes.items
-        ≡ map (package_index metadata.now.packages.items) metadata.now.nodes.items) }
+) -> Result<BTreeSet<&'a str>, AllocError>
+    ensures { IfOk result (λ names. HasJustNames names (IsWithoutLibrary metadata.now.packages.items manifests.now)) }
 {
-    let package_indexes = package_indexes(alloc, metadata)?;
-    let without_library = without_library(alloc, metadata, &manifests)?;
-    Ok(Declarations {
-        manifests,
-        package_indexes,
-        without_library,
-    })
+    let mut names = BTreeSet::new(alloc);
+    'manifests: for i in 0..manifests.len() {
+        add_name(name_without_library(metadata, &manifests[i], i), &mut names)?;
+    }
+    Ok(names)
 }
 
 impl<'a> Declarations<'a> {
@@ -112,8 +109,11 @@ impl<'a> Declarations<'a> {
         ensures refused { IfErr result (λ refusal. IsRefused (view document.now) refusal) }
     {
         let manifests = read_manifests(alloc, document)?;
-        match declarations_of(alloc, metadata, manifests) {
-            Ok(declarations) => Ok(declarations),
+        match package_indexes(alloc, metadata) {
+            Ok(package_indexes) => Ok(Declarations {
+                manifests,
+                package_indexes,
+            }),
             Err(refused) => Err(DeclarationsError::Memory(refused)),
         }
     }
@@ -133,11 +133,16 @@ impl<'a> Declarations<'a> {
         self.manifests.get(*self.package_indexes.get(node)?)
     }
 
-    /// Returns whether Cargo gives no edge to a declared dependency, since its package has no library.
-    pub fn has_no_library(&self, declared: &DeclaredDependency<'a>) -> bool {
-        self.without_library
-            .binary_search_by(|name| (*name).cmp(declared.name))
-            .is_ok()
+    /// Returns the names of the packages without a library. Cargo gives no edge to a dependency on such a package.
+    pub(crate) fn names_without_library(
+        &self,
+        alloc: Global,
+        metadata: &Metadata<'a>,
+    ) -> Result<BTreeSet<&'a str>, AllocError>
+        ensures { IfOk result
+            (λ names. HasJustNames names (IsWithoutLibrary metadata.now.packages.items self.now.manifests.items)) }
+    {
+        without_library(alloc, metadata, &self.manifests)
     }
 }
 

@@ -7,6 +7,7 @@ mod entries;
 mod linking;
 mod manifests;
 mod missing_edges;
+mod name_sets;
 mod requested;
 
 pub use declaring::{Declarations, DeclaredGraph, DependencyRow, dependency_rows};
