@@ -5,7 +5,7 @@ ghost use Rattle.key_answers.specs.declared.answer.Status.TheVariants.{Fine, Fou
 ghost use Rattle.diagnostics.specs.LintLevels.{Fails};
 
 use crate::level_rules::{DiagnosticLevel, Occurrence};
-use cargo_platform::shown_start;
+use cargo_platform::printable_excerpt;
 use key_answers::answer::Status;
 use manifest_lints_findings::{Children, KeyLint, Level, Lint};
 use manifests::key_locations::Location;
@@ -90,7 +90,7 @@ impl Diagnostic {
         let subject = self.subject.as_str();
         match self.key() {
             Some(key) => {
-                let key = shown_start(alloc, key)?;
+                let key = printable_excerpt(alloc, key)?;
                 format!(in alloc; "{subject}.'{key}'")
             }
             None => String::from_str(alloc, subject),

@@ -1,6 +1,6 @@
 //! A graph of packages, with the targets on which each package is in the build.
 
-use crate::lines::{shown, shown_package};
+use crate::lines::{format_package, format_text};
 use crate::query::GraphQuery;
 use crate::resolving::ResolvedFeatures;
 use crate::sides::{BySide, is_selected};
@@ -146,15 +146,16 @@ impl<'a> Graph<'a> {
         }
     }
 
-    /// Returns the package at a place as it is shown: its name and version, and its source if it has a twin.
-    pub fn shown(&self, alloc: Global, index: usize) -> Result<String, AllocError> {
+    /// Formats the name and the version of the package at an index for text output, with its source if another package
+    /// has the same name and version. Fails if memory is refused.
+    pub fn format_package(&self, alloc: Global, index: usize) -> Result<String, AllocError> {
         let Some(described) = self.described(index) else {
             return Ok(String::new(alloc));
         };
-        let package = shown_package(alloc, described)?;
+        let package = format_package(alloc, described)?;
         match self.source(index) {
             Some(source) => {
-                let source = shown(alloc, source)?;
+                let source = format_text(alloc, source)?;
                 format!(in alloc; "{package} ({source})")
             }
             None => Ok(package),

@@ -1,9 +1,9 @@
 //! Finds what Cargo rejects in the tables of dependencies of a manifest, and in the fields that it inherits.
 
 use crate::dependency_rules::{CheckedDependency, WorkspaceRoot, rejected_dependency};
-use cargo_platform::shown_start;
+use cargo_platform::printable_excerpt;
 use input_limits::strip_byte_order_mark;
-use manifest_lints_findings::{Level, shown_table, table_diagnostics};
+use manifest_lints_findings::{Level, format_table_name, table_diagnostics};
 use manifests::dotted_keys::find_dotted_key;
 use manifests::key_locations::Location;
 use manifests::{Kind, table_of};
@@ -94,7 +94,7 @@ fn on_dependency(
     name: &str,
     reason: &str,
 ) -> Result<String, AllocError> {
-    let name = shown_start(alloc, name)?;
+    let name = printable_excerpt(alloc, name)?;
     format!(in alloc; "{table}.{name}: {reason}")
 }
 
@@ -137,7 +137,7 @@ fn at_dependency(
     kind: Kind,
     reason: &str,
 ) -> Result<At, AllocError> {
-    let table = shown_table(alloc, place.key, kind.table_name())?;
+    let table = format_table_name(alloc, place.key, kind.table_name())?;
     let reason = on_dependency(alloc, table.as_str(), name, reason)?;
     let mut path = path_of(alloc, place.table, kind, place.key)?;
     path.push(String::from_str(alloc, name)?)?;
@@ -155,7 +155,7 @@ fn rejected_of_kind(
         return Ok(None);
     };
     let Some(members) = value.as_table() else {
-        let name = shown_table(alloc, place.key, kind.table_name())?;
+        let name = format_table_name(alloc, place.key, kind.table_name())?;
         let path = path_of(alloc, place.table, kind, place.key)?;
         let reason = format!(in alloc; "{name} is not a table")?;
         return Ok(Some(At {

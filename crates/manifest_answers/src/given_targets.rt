@@ -5,7 +5,7 @@ use cargo_platform::{Cfg, CfgExpr, Platform};
 use exact_answers::{CanSelect, FactConstraints, MustSelect, always_platform, can_hold_platform};
 use input_limits::strip_byte_order_mark;
 use key_answers::answer::QueryError;
-use key_answers::printing::{invalid_fact_message, shown_name};
+use key_answers::printing::{format_name, invalid_fact_message};
 use known_targets::{COUNT, KnownTarget, RUSTC_VERSION, TargetSet, targets_with_fact};
 use manifest_lints_findings::near;
 use manifests::TargetFacts;
@@ -253,7 +253,7 @@ impl GivenTargets {
     /// Returns the message for a name that no target has, with the nearest one.
     pub fn unknown(&self, alloc: Global, name: &str) -> Result<String, AllocError> {
         let file = self.file.as_str();
-        let shown = shown_name(alloc, name)?;
+        let shown = format_name(alloc, name)?;
         match self.nearest(alloc, name)? {
             Some(nearest) => {
                 format!(in alloc; "no target of {file} is named {shown}; did you mean {nearest}?")

@@ -3,7 +3,7 @@
 use crate::cargo_refuses::{Rejected, rejected_by_cargo};
 use crate::deep::has_deep;
 use crate::dependency_rules::WorkspaceRoot;
-use cargo_platform::shown_text;
+use cargo_platform::printable_text;
 use input_limits::{INPUT, strip_byte_order_mark};
 use manifests::document;
 use manifests::reading::{Manifest, ManifestText, ReadError};
@@ -20,7 +20,7 @@ fn manifest_of(
     with_lines: bool,
 ) -> Result<Manifest, AllocError> {
     let Document { text, table } = read;
-    let path = shown_text(alloc, path)?;
+    let path = printable_text(alloc, path)?;
     if with_lines || has_deep(alloc, &table)? {
         let text = strip_byte_order_mark(text.as_str());
         let document = document::Document::of(alloc, table, text)?;
@@ -40,7 +40,7 @@ fn text_of<R: Files + Input + AllocGlobal>(
         return ManifestText::read(rt, path, documents.limit);
     };
     let text = String::from_str(rt.alloc(), text)?;
-    Ok(ManifestText::of(shown_text(rt.alloc(), path)?, text))
+    Ok(ManifestText::of(printable_text(rt.alloc(), path)?, text))
 }
 
 /// Reads and parses the manifest that is named.

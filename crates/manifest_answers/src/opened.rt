@@ -1,7 +1,7 @@
 //! The names that a command line leaves open, and whether keys use them.
 
 use cargo_platform::{Platform, ReadError, values_of};
-use key_answers::printing::shown_name;
+use key_answers::printing::format_name;
 use manifest_lints_findings::near;
 use manifests::{Targets, target_keys};
 use predicate_classes::rustc_names::name_in;
@@ -100,7 +100,7 @@ impl OpenNames {
 
 /// Returns the warning for a name that no key uses.
 fn unused_line(alloc: Global, opened: &Opened) -> Result<String, AllocError> {
-    let name = shown_name(alloc, opened.name.as_str())?;
+    let name = format_name(alloc, opened.name.as_str())?;
     match &opened.near {
         Some(near) => {
             let near = near.as_str();

@@ -33,7 +33,7 @@ pub struct ManifestSelection {
 
 /// The selected manifests.
 #[derive(Drop)]
-pub struct Found {
+pub struct FoundManifests {
     pub paths: Vec<String>,
     /// The errors for manifests that can't be found.
     pub unusable: Vec<InputError>,
@@ -41,7 +41,7 @@ pub struct Found {
     pub warnings: String,
 }
 
-impl Found {
+impl FoundManifests {
     /// Adds an error.
     pub(crate) fn push(&mut self, reason: String) -> Result<(), AllocError> {
         self.unusable.push(InputError { file: None, reason })?;
@@ -200,7 +200,7 @@ fn is_same<R: Files + AllocGlobal>(
 fn add_error<R: Files + AllocGlobal>(
     rt: &R,
     error: InputError,
-    found: &mut Found,
+    found: &mut FoundManifests,
 ) -> Result<(), AllocError> {
     for other in &found.unusable {
         if is_same(rt, other, &error)? {
@@ -216,7 +216,7 @@ fn add_members<R: Files + AllocGlobal + Clone + Drop>(
     rt: &R,
     documents: &mut ManifestCache,
     file: &str,
-    found: &mut Found,
+    found: &mut FoundManifests,
 ) -> Result<(), AllocError> {
     let mut errors = Vec::new(rt.alloc());
     for folder in &members_of(rt, documents, file, &mut errors)? {
@@ -237,7 +237,7 @@ fn add_meant<R: Files + Env + AllocGlobal + Clone + Drop>(
     documents: &mut ManifestCache,
     selection: &ManifestSelection,
     file: &str,
-    found: &mut Found,
+    found: &mut FoundManifests,
 ) -> Result<(), AllocError> {
     if file == INPUT {
         found.paths.push(String::from_str(rt.alloc(), file)?)?;
@@ -257,7 +257,7 @@ fn add_all<R: Files + Env + AllocGlobal + Clone + Drop>(
     documents: &mut ManifestCache,
     selection: &ManifestSelection,
     named: &[String],
-    found: &mut Found,
+    found: &mut FoundManifests,
 ) -> Result<(), AllocError> {
     for path in named {
         let file = file_of(rt, path.as_str())?;
@@ -272,7 +272,7 @@ fn add_at_hand<R: Files + Env + AllocGlobal + Clone + Drop>(
     rt: &R,
     documents: &mut ManifestCache,
     selection: &ManifestSelection,
-    found: &mut Found,
+    found: &mut FoundManifests,
 ) -> Result<(), AllocError> {
     let Some(file) = manifest_above(rt)? else {
         let reason = "no `Cargo.toml` is here or in a folder above";
@@ -330,9 +330,9 @@ pub fn find<R: Files + Env + AllocGlobal + Clone + Drop>(
     rt: &R,
     documents: &mut ManifestCache,
     selection: &ManifestSelection,
-) -> Result<Found, AllocError> {
+) -> Result<FoundManifests, AllocError> {
     let alloc = rt.alloc();
-    let mut found = Found {
+    let mut found = FoundManifests {
         paths: Vec::new(alloc),
         unusable: Vec::new(alloc),
         warnings: String::new(alloc),

@@ -3,7 +3,7 @@
 ghost use Rattle.std.specs.Prelude.{◌↔◌, IsTrue, IfOk};
 ghost use Rattle.workspaces.specs.Members.{IsMatchedBy, IsMatchedBySome};
 
-use crate::components::{CharacterRange, Characters, Component, Name, Part};
+use crate::components::{CharacterRange, Characters, Component, FolderName, Part};
 use crate::glob_matching::matches_pieces;
 use std::alloc::{AllocError, Global};
 
@@ -60,8 +60,8 @@ pub fn plain_components<'a>(alloc: Global, path: &'a str) -> Result<Vec<&'a str>
     Ok(components)
 }
 
-/// Returns the path of a folder as names.
-pub fn names_of(alloc: Global, path: &str) -> Result<Vec<Name>, AllocError> {
+/// Returns the names of the folders in a path, without components that lead nowhere.
+pub fn folder_names(alloc: Global, path: &str) -> Result<Vec<FolderName>, AllocError> {
     let mut names = Vec::new(alloc);
     for component in &plain_components(alloc, path)? {
         names.push(component.chars().collect(alloc)?)?;
