@@ -25,7 +25,7 @@ struct Rows {
     below: Option<(usize, &'static str)>,
 }
 
-/// Returns the name of a level, in colour if `colours`.
+/// Formats the name of a level, in colour if `colours` is true.
 pub fn coloured(
     alloc: Global,
     level: DiagnosticLevel,
@@ -317,7 +317,7 @@ fn head_of(
     }
 }
 
-/// Appends a diagnostic as rustc prints it for people, and an empty line. Fails if memory is refused.
+/// Appends a diagnostic in the layout of rustc's messages, followed by an empty line. Fails if memory is refused.
 pub fn push_rendered(
     output: &mut String,
     alloc: Global,

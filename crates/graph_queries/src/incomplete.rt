@@ -1,4 +1,4 @@
-//! The reasons why documents are rejected that lack the edge of a dependency that is on.
+//! The reasons why incomplete documents are rejected: they lack the edge of a dependency that is enabled.
 
 use crate::lines::{format_package, format_text};
 use crate::refused::COMMAND;

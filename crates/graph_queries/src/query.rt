@@ -311,7 +311,7 @@ impl<'a> GraphQuery<'a> {
         })
     }
 
-    /// Returns the same query for the targets of a file.
+    /// Returns the same query for the targets of a file, which these groups represent.
     pub fn in_groups(self, groups: &'a Groups<'a>) -> GraphQuery<'a> {
         let mut query = self;
         query.targets = groups.targets();
@@ -339,7 +339,8 @@ impl<'a> GraphQuery<'a> {
         }
     }
 
-    /// Returns whether text says `all` of some targets: of the selected ones, unless only one is selected, by its name.
+    /// Returns whether text output prints these targets as `all`. It does if they are the selected targets, unless only
+    /// one target is selected, by its name.
     pub fn are_all(&self, targets: TargetSet) -> bool {
         targets.equals(self.targets) && !(self.are_named && self.count == 1)
     }

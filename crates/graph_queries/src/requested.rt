@@ -145,7 +145,7 @@ fn format_current(
     )
 }
 
-/// Returns the reason why a feature is rejected that its package has not.
+/// Returns the reason why a feature is rejected that its package does not have.
 fn no_feature(alloc: Global, package: &str, feature: &str) -> Result<String, AllocError> {
     let feature = format_text(alloc, feature)?;
     format!(in alloc; "{package} has no feature {feature}")

@@ -36,7 +36,7 @@ impl Rejected {
         }
     }
 
-    /// Returns the line about a manifest with this path for people. Fails if an allocation fails.
+    /// Formats the error of a manifest with this path as a line for people. Fails if an allocation fails.
     pub fn text(&self, alloc: Global, path: &str) -> Result<String, AllocError> {
         let reason = self.reason.as_str();
         match self.line() {

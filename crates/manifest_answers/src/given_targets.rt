@@ -245,7 +245,7 @@ impl GivenTargets {
         }
     }
 
-    /// Returns the first name that differs from this one by one edit.
+    /// Returns the first name of a target that differs from this name by one edit, if there is one.
     pub fn nearest(&self, alloc: Global, name: &str) -> Result<Option<&str>, AllocError> {
         Ok(near(name, &self.names(alloc)?))
     }
@@ -318,7 +318,7 @@ impl GivenTargets {
         rows.any(|row| row.facts().iter().any(|it| it == fact))
     }
 
-    /// Returns the facts that no built-in target has, each once, as they are written.
+    /// Returns the facts of these targets that no known target has, each once.
     pub fn new_facts(&self, alloc: Global) -> Result<Vec<String>, AllocError> {
         let mut seen = BTreeSet::new(alloc);
         let mut texts = Vec::new(alloc);

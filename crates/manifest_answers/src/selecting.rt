@@ -444,7 +444,7 @@ impl<'a> ManifestQuery for Selecting<'a> {
     }
 }
 
-/// A target that is selected.
+/// A selected target.
 #[derive(Drop)]
 pub struct Target {
     pub name: String,
@@ -562,8 +562,9 @@ fn known_of_each(
     Ok(known)
 }
 
-/// Returns what each target selects from the manifests at these paths, in their order, by the facts that the target and
-/// the host have. Those of the documents are not read again. Manifests of more bytes than their limit are rejected.
+/// Returns the dependencies that each target selects from the manifests at these paths, in the order of the paths, by
+/// the facts of the target and of the host. Manifests in the cache are not read again. Manifests that are larger than
+/// its limit are rejected.
 pub fn select_each<R: Files + Input + Env + AllocGlobal>(
     rt: &R,
     documents: &mut ManifestCache,

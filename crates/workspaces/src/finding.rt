@@ -31,13 +31,14 @@ pub struct ManifestSelection {
     pub alone: bool,
 }
 
-/// The selected manifests.
+/// The manifests that [`find`] found.
 #[derive(Drop)]
 pub struct FoundManifests {
+    /// The paths of the manifests, each once.
     pub paths: Vec<String>,
     /// The errors for manifests that can't be found.
     pub unusable: Vec<InputError>,
-    /// A warning a line, for each entry of `excluded` that matches no manifest.
+    /// The warnings for the entries of `excluded` that match no manifest, one a line.
     pub warnings: String,
 }
 

@@ -13,7 +13,8 @@ pub struct MemberRules {
     pub members: Vec<Pattern>,
     /// For each path of `exclude`, what is in or below it.
     pub excluded: Vec<Pattern>,
-    /// For each text of `members` as it stands, what is in or below it: `exclude` does not count there.
+    /// For each text of `members`, read as a path and not as a glob, the pattern of the folders in or below it. `exclude`
+    /// does not apply to these folders.
     pub named: Vec<Pattern>,
 }
 
