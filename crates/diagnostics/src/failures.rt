@@ -9,7 +9,7 @@ use manifests::reading::SyntaxError;
 use std::alloc::{AllocError, Global};
 use toml_spans::Span;
 
-/// Returns the diagnostic for a file that cannot be used, or for something that Cargo rejects, with its location if that
+/// Returns the diagnostic for a file that cannot be used, or for something that Cargo rejects, with its location if it
 /// is known. Fails if memory is refused.
 pub fn diagnostic_of_failure(
     alloc: Global,

@@ -110,8 +110,8 @@ impl Window {
         Some(Window::around(text, begin))
     }
 
-    /// Returns the part of the line in the window, as it is printed, with `...` at each side that is cut. Fails if memory
-    /// is refused.
+    /// Returns the part of the line in the window, as it is printed, with `...` at each side that is cut. Fails if
+    /// memory is refused.
     pub fn printable_line(&self, alloc: Global, text: &str) -> Result<String, AllocError> {
         let line = text.get(self.start..self.end).unwrap_or("");
         let line = shown_line(alloc, without_return(line))?;

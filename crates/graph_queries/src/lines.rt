@@ -6,8 +6,8 @@ use cargo_platform::{Platform, printable_excerpt};
 use known_targets::TargetSet;
 use std::alloc::{AllocError, Global};
 
-/// Appends a part to a text. Unlike `push_str`, this function has no contract, so that its callers are proved in a tenth
-/// of the time.
+/// Appends a part to a text. Unlike `push_str`, this function has no contract, so that its callers are proved in a
+/// tenth of the time.
 pub fn push(text: &mut String, part: &str) -> Result<(), AllocError> {
     text.push_str(part)
 }

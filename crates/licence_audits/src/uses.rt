@@ -95,7 +95,8 @@ fn needs_exception(
     }
 }
 
-/// Returns whether entries of a list are unused: no package that is to be audited has a licence that one of them allows.
+/// Returns whether entries of a list are unused: no package that is to be audited has a licence that one of them
+/// allows.
 ///
 /// # Errors
 ///

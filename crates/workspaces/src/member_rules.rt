@@ -13,8 +13,8 @@ pub struct MemberRules {
     pub members: Vec<Pattern>,
     /// For each path of `exclude`, what is in or below it.
     pub excluded: Vec<Pattern>,
-    /// For each text of `members`, read as a path and not as a glob, the pattern of the folders in or below it. `exclude`
-    /// does not apply to these folders.
+    /// For each text of `members`, read as a path and not as a glob, the pattern of this folder and those below it.
+    /// `exclude` does not apply to these folders.
     pub named: Vec<Pattern>,
 }
 

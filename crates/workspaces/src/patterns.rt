@@ -173,9 +173,9 @@ fn component_of(alloc: Global, text: &str) -> Result<Component, PatternError> {
 }
 
 impl Pattern {
-    /// Parses a glob. `*` matches any characters of a name, `?` matches one, `[a-z]` matches one of some characters, and
-    /// `[!a-z]` matches one of the others. `**` as a whole component matches any number of folders, and at the end at
-    /// least one. Fails if the text is not a glob.
+    /// Parses a glob. `*` matches any characters of a name, `?` matches one, `[a-z]` matches one of some characters,
+    /// and `[!a-z]` matches one of the others. `**` as a whole component matches any number of folders, and at the end
+    /// at least one. Fails if the text is not a glob.
     pub fn from_str(alloc: Global, text: &str) -> Result<Pattern, PatternError> {
         let mut components = Vec::new(alloc);
         for component in &plain_components(alloc, text)? {
