@@ -40,9 +40,8 @@ fn escaped(alloc: Global, json: &str, shown: &str) -> Result<String, AllocError>
     Ok(text)
 }
 
-/// Returns printed JSON with an escape for each character that [`printable_text`] hides. It is what `printable_text` returns,
-/// so
-/// that nothing of it is hidden.
+/// Returns printed JSON with an escape for each character that [`printable_text`] replaces. `printable_text` does not
+/// change the result, so nothing in it is hidden.
 fn with_escapes(alloc: Global, json: &str) -> Result<String, AllocError>
     ensures { IfOk result (λ s. IsShownText (string_bytes s)) }
 {
