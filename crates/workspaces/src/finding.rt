@@ -282,7 +282,7 @@ fn add_at_hand<R: Files + Env + AllocGlobal + Clone + Drop>(
     add_meant(rt, documents, selection, file.as_str(), found)
 }
 
-/// Returns those of the paths that lead to a manifest to which no path before leads.
+/// Returns the paths without those that lead to the manifest of an earlier path.
 fn each_once<R: Files + AllocGlobal>(rt: &R, paths: &[String]) -> Result<Vec<String>, AllocError> {
     let mut seen = BTreeSet::new(rt.alloc());
     let mut once = Vec::new(rt.alloc());
@@ -312,7 +312,7 @@ fn nearer_paths(alloc: Global, folder: &str, paths: &[String]) -> Result<Vec<Str
     Ok(found)
 }
 
-/// Returns those of the paths that lead to a manifest to which no path before leads, as they lead from the current
+/// Returns the paths without those that lead to the manifest of an earlier path, each simplified from the current
 /// folder.
 fn once_from_here<R: Files + Env + AllocGlobal>(
     rt: &R,

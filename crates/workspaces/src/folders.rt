@@ -183,7 +183,7 @@ fn add_named<R: Files + AllocGlobal + Clone + Drop>(
     Ok(())
 }
 
-/// Returns the folders in these that a component of a glob may match. `text` is the component as it is written.
+/// Returns the folders in these that a component of a glob may match. `text` is the component's text.
 fn next_of<R: Files + AllocGlobal + Clone + Drop>(
     rt: &R,
     root: &str,

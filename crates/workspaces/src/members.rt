@@ -92,7 +92,7 @@ fn globs_of(
     Ok(globs)
 }
 
-/// Returns, for each path, the pattern of what is in or below it.
+/// Returns, for each path, the pattern that matches its folder and all folders below it.
 fn all_below(alloc: Global, paths: &[String]) -> Result<Vec<Pattern>, AllocError> {
     let mut patterns = Vec::new(alloc);
     for path in paths {
