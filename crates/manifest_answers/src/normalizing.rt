@@ -12,7 +12,7 @@ use std::rt::{Env, Files};
 use toml::Table;
 use workspaces::{Document, ManifestCache, inherits, put_inherited, root_of};
 
-/// Returns the manifest that a document is, with the lines of its keys where they are asked for, or a key is too deep.
+/// Returns the manifest of a document, with the lines of its keys if they are requested or a key is nested too deep.
 fn manifest_of(
     alloc: Global,
     path: &str,
