@@ -15,15 +15,15 @@ use workspaces::{Document, is_of_2024};
 /// The kinds of tables of dependencies.
 const KINDS: [Kind; 3] = [Kind::Normal, Kind::Development, Kind::Build];
 
-/// The first thing that Cargo rejects in a manifest, beside its keys of `target`.
+/// The first table, dependency or field of a manifest that Cargo rejects. Invalid keys of `target` are not included.
 #[derive(Drop)]
 pub struct Rejected {
     /// The place of the table, dependency or field, if it is known.
     pub at: Option<Location>,
     /// The table, dependency or field, and why it is rejected.
     pub reason: String,
-    /// True if a lint reports it: a table or package whose name Cargo does not take where it is, or what is no table
-    /// below a key of `target`.
+    /// True if a lint reports this error too: Cargo does not accept the name of a table or package at its place, or a
+    /// value below a key of `target` is not a table.
     pub is_lint: bool,
 }
 

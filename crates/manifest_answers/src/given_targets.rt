@@ -15,10 +15,10 @@ use std::cell::OnceCell;
 use std::collections::BTreeSet;
 use target_tables::{TableError, TargetRow, TargetTable, read_table};
 
-/// The maximal number of targets. Names are searched linearly.
+/// The maximum number of targets. Names are searched linearly.
 const MOST: usize = 10_000;
 
-/// The targets of a file, or the known ones, and others that are added to them.
+/// The targets of a file, or the known targets, with others that are added to them.
 #[derive(Drop)]
 pub struct GivenTargets {
     /// The path of the file, as it is displayed, or what else messages call the targets.
@@ -141,7 +141,7 @@ impl GivenTargets {
         })
     }
 
-    /// Returns the same targets, to which others can be added.
+    /// Returns a copy of the targets, to which others can be added.
     pub fn copy(&self, alloc: Global) -> Result<GivenTargets, AllocError> {
         let mut own = TargetTable::new(alloc);
         for row in self.own.rows() {
@@ -219,7 +219,7 @@ impl GivenTargets {
         self.has_known && KnownTarget::by_name(name).is_some()
     }
 
-    /// Returns whether there is a target of this name.
+    /// Returns whether one of the targets has this name.
     pub fn has_name(&self, name: &str) -> bool {
         self.own.by_name(name).is_some() || self.is_known(name)
     }

@@ -37,7 +37,7 @@ pub struct OpenNames {
 }
 
 impl OpenNames {
-    /// Returns these names, before a key is read.
+    /// Creates the list of these names, none of which is used by a key yet.
     pub fn new(alloc: Global, names: &[&str]) -> Result<OpenNames, AllocError> {
         let mut opened = Vec::new(alloc);
         for name in names {
@@ -85,7 +85,7 @@ impl OpenNames {
         Ok(())
     }
 
-    /// Returns a warning for each name that no key uses, a line each.
+    /// Returns the warnings for the names that no key uses, one a line.
     pub fn unused_names(&self, alloc: Global) -> Result<String, AllocError> {
         let mut lines = String::new(alloc);
         for opened in &self.names {

@@ -120,8 +120,8 @@ struct Bracketed {
     length: usize,
 }
 
-/// Parses the bracket at the beginning of a text. A `]` directly after the bracket, or after `[!`,
-/// is an ordinary character.
+/// Parses the bracket at the beginning of a text. A `]` directly after the bracket, or after `[!`, is an
+/// ordinary character.
 fn read_bracket(alloc: Global, text: &[char]) -> Result<Bracketed, PatternError> {
     let are_excluded = text.get(1) == Some(&'!');
     let begin: usize = if are_excluded { 2 } else { 1 };
