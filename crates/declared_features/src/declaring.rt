@@ -11,7 +11,7 @@ ghost use Rattle.declared_features.specs.Manifests.{index_of_id, package_index, 
 ghost use Rattle.declared_features.specs.Rows.{EdgeKind, kinds_by, kinds_at, links_at, AreRowsOf};
 ghost use Rattle.declared_features.specs.Edges.{AreSame, IsLike, IsOf, name_at, code_name};
 
-use crate::manifests::{DeclarationsError, DeclaredDependency, Manifest, read_manifests};
+use crate::manifests::{DeclarationsError, DeclaredDependency, PackageDeclaration, read_manifests};
 use cargo_metadata::graphs::Linked;
 use cargo_metadata::{Dependency as Edge, Indexes, KindRow, Metadata, Package};
 use package_graphs::Dependency as LinkedEdge;
@@ -22,7 +22,7 @@ use std::alloc::{AllocError, Global};
 #[derive(Drop)]
 pub struct Declarations<'a> {
     /// In the order of the document's packages.
-    manifests: Vec<Manifest<'a>>,
+    manifests: Vec<PackageDeclaration<'a>>,
     /// For each node, the index of its package among those of the document.
     package_indexes: Vec<usize>,
     /// The names of the packages without a library, sorted. Cargo gives no edge to a dependency on such a package.
@@ -58,7 +58,7 @@ fn package_indexes<'a>(alloc: Global, metadata: &Metadata<'a>) -> Result<Vec<usi
 fn without_library<'a>(
     alloc: Global,
     metadata: &Metadata<'a>,
-    manifests: &[Manifest<'a>],
+    manifests: &[PackageDeclaration<'a>],
 ) -> Result<Vec<&'a str>, AllocError> {
     let mut names = Vec::new(alloc);
     for i in 0..manifests.len() {
@@ -74,7 +74,7 @@ fn without_library<'a>(
 fn declarations_of<'a>(
     alloc: Global,
     metadata: &Metadata<'a>,
-    manifests: Vec<Manifest<'a>>,
+    manifests: Vec<PackageDeclaration<'a>>,
 ) -> Result<Declarations<'a>, AllocError>
     ensures manifests { IfOk result (λ declarations. declarations.manifests.items ≡ manifests.entry.items) }
     ensures packages { IfOk result (λ declarations. declarations.package_indexes.items
@@ -126,7 +126,7 @@ impl<'a> Declarations<'a> {
     }
 
     /// Returns what the package of a node declares.
-    pub fn manifest(&self, node: usize) -> Option<&Manifest<'a>>
+    pub fn manifest(&self, node: usize) -> Option<&PackageDeclaration<'a>>
         // The manifest is that of the package of the node.
         ensures { option_copied result ≡ manifest_at self.now node }
     {

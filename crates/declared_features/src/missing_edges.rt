@@ -3,7 +3,7 @@
 use crate::declaring::{Declarations, DeclaredGraph, dependency_rows};
 use crate::entries::FeatureEntry;
 use crate::linking::{RequestedFeatures, toml_name};
-use crate::manifests::{DeclaredDependency, Manifest};
+use crate::manifests::{DeclaredDependency, PackageDeclaration};
 use cargo_features::{Claim, Resolved};
 use cargo_metadata::{Dependency as Edge, Kind, Metadata};
 use package_graphs::Side;
@@ -54,7 +54,7 @@ fn on_in_document<'a>(
     alloc: Global,
     document: &'a Value,
     node: usize,
-    manifest: &Manifest<'a>,
+    manifest: &PackageDeclaration<'a>,
 ) -> Result<BTreeSet<&'a str>, AllocError> {
     let mut features = BTreeSet::new(alloc);
     for feature in features_at(document, node).unwrap_or(&[]) {
@@ -137,7 +137,7 @@ impl<'m, 'a> Kept<'m, 'a> {
     }
 
     /// Returns whether a filter may have left out some dependency that a package declares.
-    fn may_lack_any(&self, manifest: &Manifest<'a>, is_root: bool) -> bool {
+    fn may_lack_any(&self, manifest: &PackageDeclaration<'a>, is_root: bool) -> bool {
         for declared in &manifest.dependencies {
             if self.may_lack(declared, is_root) {
                 return true;
@@ -152,7 +152,7 @@ impl<'m, 'a> Kept<'m, 'a> {
         alloc: Global,
         graph: &DeclaredGraph<'m, 'a>,
         node: usize,
-        manifest: &'m Manifest<'a>,
+        manifest: &'m PackageDeclaration<'a>,
     ) -> Result<Option<&'m DeclaredDependency<'a>>, AllocError> {
         let is_root = match graph.linked.packages.get(node) {
             Some(unit) => unit.is_root,
@@ -208,7 +208,7 @@ fn on_as_resolved<'a>(
     alloc: Global,
     resolved: &Resolved,
     node: usize,
-    manifest: &Manifest<'a>,
+    manifest: &PackageDeclaration<'a>,
 ) -> Result<BTreeSet<&'a str>, AllocError> {
     let mut names = BTreeSet::new(alloc);
     for i in 0..manifest.features.len() {

@@ -3,7 +3,7 @@
 
 use crate::lines::{format_package, format_text};
 use crate::reading::Rejected;
-use declared_features::{DeclaredGraph, Manifest, RequestedFeatures};
+use declared_features::{DeclaredGraph, PackageDeclaration, RequestedFeatures};
 use key_answers::printing::format_name;
 use std::alloc::{AllocError, Global};
 
@@ -78,7 +78,7 @@ pub fn split_by_root<'a>(
 
 /// Returns whether a package has a feature of this name: one of its own, with or without `PACKAGE/` before it, or one
 /// with the name of a dependency before it.
-fn has_feature(package: Option<&str>, manifest: &Manifest<'_>, name: &str) -> bool {
+fn has_feature(package: Option<&str>, manifest: &PackageDeclaration<'_>, name: &str) -> bool {
     let own = match name.split_once('/') {
         Some((first, feature)) if package == Some(first) => feature,
         Some((first, _)) => {
