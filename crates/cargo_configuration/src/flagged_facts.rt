@@ -2,7 +2,7 @@
 
 use crate::flags::{Flags, SharedRustflags};
 use crate::sources::{Source, used_source};
-use cargo_platform::shown_start;
+use cargo_platform::printable_excerpt;
 use key_answers::answer::QueryError;
 use manifest_answers::given_targets::FactsFrom;
 use manifest_answers::questions::applies;
@@ -61,8 +61,8 @@ impl RustflagsFacts {
             return Ok(());
         }
         self.facts.push(String::from_str(alloc, fact)?)?;
-        let fact = shown_start(alloc, fact)?;
-        let place = shown_start(alloc, place)?;
+        let fact = printable_excerpt(alloc, fact)?;
+        let place = printable_excerpt(alloc, place)?;
         let note = format!(in alloc; "note: {place} sets `{fact}`; --no-config leaves it out\n")?;
         self.notes.push_str(note.as_str())
     }

@@ -2,7 +2,7 @@
 //! ("Configuration": `include`).
 
 use crate::files::current_configurations;
-use cargo_platform::shown_text;
+use cargo_platform::printable_text;
 use key_answers::answer::QueryError;
 use manifests::reading::{Manifest, read_manifest};
 use std::alloc::{AllocError, Global};
@@ -124,7 +124,7 @@ fn read_configuration<R: Files + Input + AllocGlobal>(
 
 /// Returns the error for a configuration whose `include` Cargo rejects.
 fn rejected_include(alloc: Global, path: &str, reason: &str) -> Result<QueryError, AllocError> {
-    let path = shown_text(alloc, path)?;
+    let path = printable_text(alloc, path)?;
     Ok(QueryError::Unusable(format!(in alloc; "{path}: error: include: {reason}\n")?))
 }
 

@@ -42,7 +42,7 @@ pub use folding::{Fold, fold_expression};
 pub use json::JsonError;
 pub use parentheses::{nesting, nesting_beyond};
 pub use platforms::inside_cfg;
-pub use snippet::{shown_start, shown_text};
+pub use snippet::{printable_excerpt, printable_text};
 pub use tokens::{Looks, Spanned, Token, TokenFault, TokenFaultKind, Tokenizer};
 
 /// The condition of a dependency.

@@ -44,18 +44,18 @@ impl ParseError {
     }
 }
 
-/// Returns the whole text as snippets show it: a character is shown as U+FFFD if it is neither the space U+0020 nor in
-/// one of the general categories L, N, P and S. So a printed text can't forge a line.
-pub fn shown_text(alloc: Global, text: &str) -> Result<String, AllocError>
+/// Returns the text with U+FFFD in place of each character that is neither the space U+0020 nor in one of the general
+/// categories L, N, P and S. So a printed text can't forge a line. Snippets show texts in this form.
+pub fn printable_text(alloc: Global, text: &str) -> Result<String, AllocError>
     // The text with U+FFFD for hidden characters.
     ensures { IfOk result (λ s. string_bytes s ≡ encode_utf8_all (map shown (chars text.now))) }
 {
     text.chars().map(shown).collect(alloc)
 }
 
-/// Returns a text as snippets show one that a fault contains: as `shown_text` does, and of more than 100 characters
-/// only the first 100 with `..` after them.
-pub fn shown_start(alloc: Global, text: &str) -> Result<String, AllocError>
+/// Returns the text as `printable_text` does, cut after 100 characters, with `..` after them. Snippets show a text that
+/// an error contains in this form.
+pub fn printable_excerpt(alloc: Global, text: &str) -> Result<String, AllocError>
     // The text with U+FFFD for hidden characters, cut after 100 characters.
     ensures { IfOk result (λ s. string_bytes s ≡ shown_line (chars text.now) 0 0) }
 {
@@ -214,10 +214,10 @@ fn shown_kind(alloc: Global, kind: &ParseErrorKind) -> Result<ParseErrorKind, Al
         },
         ParseErrorKind::IncompleteExpr(expected) => ParseErrorKind::IncompleteExpr(expected),
         ParseErrorKind::UnterminatedExpression(rest) => {
-            ParseErrorKind::UnterminatedExpression(shown_start(alloc, rest)?)
+            ParseErrorKind::UnterminatedExpression(printable_excerpt(alloc, rest)?)
         }
         ParseErrorKind::InvalidTarget(message) => {
-            ParseErrorKind::InvalidTarget(shown_start(alloc, message)?)
+            ParseErrorKind::InvalidTarget(printable_excerpt(alloc, message)?)
         }
     })
 }

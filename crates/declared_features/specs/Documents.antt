@@ -14,7 +14,7 @@ use Rattle.declared_features.specs.Entries.{IsEntry}
 use Rattle.declared_features.specs.declared.entries.FeatureEntry.{FeatureEntry}
 use Rattle.declared_features.specs.declared.manifests.DeclaredDependency.{DeclaredDependency}
 use Rattle.declared_features.specs.declared.manifests.Feature.{Feature}
-use Rattle.declared_features.specs.declared.manifests.Manifest.{Manifest}
+use Rattle.declared_features.specs.declared.manifests.PackageDeclaration.{PackageDeclaration}
 
 abbrev pub IsText : Data → Bor (List ℕ) → Type 0
 IsText d text = as_str d ≡ Some text.now
@@ -88,7 +88,7 @@ library_of d = option_and_then library_among (list_at (codes "targets") d)
 -- ---- manifests
 
 -- what the object of a package declares
-pub record IsManifest (d : Data) (manifest : Manifest) : Type 0 where
+pub record IsManifest (d : Data) (manifest : PackageDeclaration) : Type 0 where
   pub library : library_of d ≡ option_map (λ s. s.now) manifest.library
   pub dependencies : AreRowsAt IsDeclared (codes "dependencies") d manifest.dependencies.items
   pub features : AreFeaturesOf d manifest.features.items

@@ -8,7 +8,7 @@ use Rattle.declared_features.specs.Manifests.{manifest_at}
 use Rattle.declared_features.specs.declared.declaring.DeclaredGraph.{DeclaredGraph}
 use Rattle.declared_features.specs.declared.declaring.DependencyRow.{DependencyRow}
 use Rattle.declared_features.specs.declared.manifests.DeclaredDependency.{DeclaredDependency}
-use Rattle.declared_features.specs.declared.manifests.Manifest.{Manifest}
+use Rattle.declared_features.specs.declared.manifests.PackageDeclaration.{PackageDeclaration}
 
 -- the name with each `-` as `_`, as in code
 abbrev pub underscored : List ℕ → List ℕ
@@ -25,7 +25,7 @@ name_in (Some described) = described.name.now
 abbrev pub name_at : DeclaredGraph → ℕ → List ℕ
 name_at graph node = name_in (slice_get graph.linked.now.described.items node)
 
-abbrev pub library_in : List ℕ → Option Manifest → List ℕ
+abbrev pub library_in : List ℕ → Option PackageDeclaration → List ℕ
 library_in name None = name
 library_in name (Some manifest) = unwrap_or (option_copied manifest.library) name
 

@@ -13,7 +13,7 @@ ghost use Rattle.declared_features.specs.NameSets.{HasJustNames};
 ghost use Rattle.declared_features.specs.Rows.{EdgeKind, kinds_by, kinds_at, links_at, AreRowsOf};
 ghost use Rattle.declared_features.specs.Edges.{AreSame, IsLike, IsOf, name_at, code_name};
 
-use crate::manifests::{DeclarationsError, DeclaredDependency, Manifest, read_manifests};
+use crate::manifests::{DeclarationsError, DeclaredDependency, PackageDeclaration, read_manifests};
 use crate::name_sets::add_name;
 use cargo_metadata::graphs::Linked;
 use cargo_metadata::{Dependency as Edge, Indexes, KindRow, Metadata, Package};
@@ -26,7 +26,7 @@ use std::collections::BTreeSet;
 #[derive(Drop)]
 pub struct Declarations<'a> {
     /// In the order of the document's packages.
-    manifests: Vec<Manifest<'a>>,
+    manifests: Vec<PackageDeclaration<'a>>,
     /// For each node, the index of its package among those of the document.
     package_indexes: Vec<usize>,
 }
@@ -59,7 +59,7 @@ fn package_indexes<'a>(alloc: Global, metadata: &Metadata<'a>) -> Result<Vec<usi
 /// Returns the name of the package at an index, if it has no library.
 fn name_without_library<'a>(
     metadata: &Metadata<'a>,
-    manifest: &Manifest<'a>,
+    manifest: &PackageDeclaration<'a>,
     index: usize,
 ) -> Option<&'a str>
     ensures { option_copied result ≡ cond (is_some manifest.now.library) None
@@ -75,7 +75,7 @@ fn name_without_library<'a>(
 fn without_library<'a>(
     alloc: Global,
     metadata: &Metadata<'a>,
-    manifests: &[Manifest<'a>],
+    manifests: &[PackageDeclaration<'a>],
 ) -> Result<BTreeSet<&'a str>, AllocError>
     ensures { IfOk result (λ names. HasJustNames names (IsWithoutLibrary metadata.now.packages.items manifests.now)) }
 {
@@ -126,7 +126,7 @@ impl<'a> Declarations<'a> {
     }
 
     /// Returns what the package of a node declares.
-    pub fn manifest(&self, node: usize) -> Option<&Manifest<'a>>
+    pub fn manifest(&self, node: usize) -> Option<&PackageDeclaration<'a>>
         // The manifest is that of the package of the node.
         ensures { option_copied result ≡ manifest_at self.now node }
     {

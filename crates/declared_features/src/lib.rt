@@ -14,6 +14,7 @@ pub use declaring::{Declarations, DeclaredGraph, DependencyRow, dependency_rows}
 pub use entries::{FeatureEntry, entry_of};
 pub use linking::{RequestedFeatures, ResolverInput, resolver_input};
 pub use manifests::{
-    DeclarationsError, DeclaredDependency, DependencyError, Feature, Manifest, ManifestError,
+    DeclarationsError, DeclaredDependency, DependencyError, Feature, ManifestError,
+    PackageDeclaration,
 };
 pub use missing_edges::{MissingEdge, first_filtered_out, first_missing_edge};

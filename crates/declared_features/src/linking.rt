@@ -15,7 +15,7 @@ ghost use Rattle.declared_features.specs.Inside.Names.{index_in, AreNamesOf};
 
 use crate::declaring::{Declarations, DeclaredGraph, DependencyRow, dependency_rows};
 use crate::entries::FeatureEntry;
-use crate::manifests::{DeclaredDependency, Manifest};
+use crate::manifests::{DeclaredDependency, PackageDeclaration};
 use crate::requested::activation_root;
 use cargo_features::{Dependency, FeatureValue, Package};
 use cargo_metadata::Indexes;
@@ -67,7 +67,7 @@ struct Names<'a> {
 /// Returns the indexes of the features of a package by name. A package without a manifest has none.
 fn feature_indexes<'a>(
     alloc: Global,
-    manifest: Option<&Manifest<'a>>,
+    manifest: Option<&PackageDeclaration<'a>>,
 ) -> Result<Indexes<'a>, AllocError>
     ensures { IfOk result
         (λ indexes. (q : List ℕ) → index_at indexes q ≡ feature_index (features_in (option_copied manifest.entry)) q) }
@@ -360,7 +360,7 @@ impl<'m, 'a> Lists<'m, 'a> {
     fn of_features(
         &self,
         alloc: Global,
-        manifest: Option<&Manifest<'a>>,
+        manifest: Option<&PackageDeclaration<'a>>,
     ) -> Result<Vec<Vec<FeatureValue>>, AllocError>
         ensures count { IfOk result
             (λ features. length features.items ≡ length (features_in (option_copied manifest.entry))) }

@@ -44,9 +44,9 @@ pub struct Feature<'a> {
     pub lists: Vec<FeatureEntry<'a>>,
 }
 
-/// The declarations of a package.
+/// The dependencies, features and library that a package declares.
 #[derive(Drop)]
-pub struct Manifest<'a> {
+pub struct PackageDeclaration<'a> {
     /// The name of the package's library, if it has one.
     pub library: Option<&'a str>,
     pub dependencies: Vec<DeclaredDependency<'a>>,
@@ -275,7 +275,7 @@ fn dependencies_of<'a>(
 }
 
 /// Reads the declarations of a package from an object.
-fn manifest_of<'a>(alloc: Global, value: &'a Value) -> Result<Manifest<'a>, ManifestError>
+fn manifest_of<'a>(alloc: Global, value: &'a Value) -> Result<PackageDeclaration<'a>, ManifestError>
     ensures { MatchResult result (λ manifest. IsManifest (view value.now) manifest)
         (λ fault. IsInManifest (view value.now) fault) }
 {
@@ -290,7 +290,7 @@ fn manifest_of<'a>(alloc: Global, value: &'a Value) -> Result<Manifest<'a>, Mani
         }
         Err(error) => return Err(ManifestError::Memory(error)),
     };
-    Ok(Manifest {
+    Ok(PackageDeclaration {
         library: library_of(value),
         dependencies,
         features,
@@ -305,7 +305,7 @@ fn manifest_of<'a>(alloc: Global, value: &'a Value) -> Result<Manifest<'a>, Mani
 pub fn read_manifests<'a>(
     alloc: Global,
     document: &'a Value,
-) -> Result<Vec<Manifest<'a>>, DeclarationsError>
+) -> Result<Vec<PackageDeclaration<'a>>, DeclarationsError>
     ensures { MatchResult result
         (λ manifests. AreRowsAt IsManifest (codes "packages") (view document.now) manifests.items)
         (λ refusal. IsRefused (view document.now) refusal) }

@@ -22,7 +22,7 @@ ghost use Rattle.declared_features.specs.Inside.Keys.{EdgeKey, kind_number, HasK
 use crate::declaring::{DeclaredGraph, DependencyRow, dependency_rows};
 use crate::entries::FeatureEntry;
 use crate::linking::{RequestedFeatures, toml_name};
-use crate::manifests::{DeclaredDependency, Manifest};
+use crate::manifests::{DeclaredDependency, PackageDeclaration};
 use crate::name_sets::add_name;
 use cargo_features::{Claim, Resolved};
 use cargo_metadata::fields::{field_at, list_at};
@@ -108,7 +108,7 @@ fn enabled_in_document<'a>(
     alloc: Global,
     document: &'a Value,
     node: usize,
-    manifest: &Manifest<'a>,
+    manifest: &PackageDeclaration<'a>,
 ) -> Result<BTreeSet<&'a str>, AllocError>
     ensures { IfOk result
         (λ names. HasJustNames names (IsTurnedOnIn (view document.now) node manifest.now.features.items)) }

@@ -5,7 +5,7 @@ ghost use Rattle.key_answers.specs.declared.answer.Status.TheVariants.{Fine, Fou
 ghost use Rattle.diagnostics.specs.LintLevels.{Fails};
 
 use crate::level_rules::{DiagnosticLevel, Occurrence};
-use cargo_platform::shown_start;
+use cargo_platform::printable_excerpt;
 use key_answers::answer::Status;
 use manifest_lints_findings::{Children, KeyLint, Level, Lint};
 use manifests::key_locations::Location;
@@ -57,7 +57,7 @@ impl Diagnostic {
         self.primary.first().copied()
     }
 
-    /// Returns the key that it is about, if there is one.
+    /// Returns the key of `target` that the diagnostic is about, if there is one.
     pub fn key(&self) -> Option<&str> {
         match &self.key {
             Some(key) => Some(key.as_str()),
@@ -65,7 +65,7 @@ impl Diagnostic {
         }
     }
 
-    /// Returns the properties on which rules depend, if rules can change its level.
+    /// Returns what rules see of the diagnostic, or `None` if rules cannot change its level.
     pub fn occurrence(&self) -> Option<Occurrence<'_>> {
         match self.lint {
             Some(lint) => Some(Occurrence {
@@ -77,7 +77,7 @@ impl Diagnostic {
         }
     }
 
-    /// Returns the name of its lint, if it has one.
+    /// Returns the name of the lint, if the diagnostic is of one.
     pub fn code(&self) -> Option<&'static str> {
         match self.lint {
             Some(lint) => Some(lint.word()),
@@ -90,14 +90,14 @@ impl Diagnostic {
         let subject = self.subject.as_str();
         match self.key() {
             Some(key) => {
-                let key = shown_start(alloc, key)?;
+                let key = printable_excerpt(alloc, key)?;
                 format!(in alloc; "{subject}.'{key}'")
             }
             None => String::from_str(alloc, subject),
         }
     }
 
-    /// Returns the subject, if there is one, and the message as one text. Fails if memory is refused.
+    /// Formats the diagnostic on one line: the subject, if there is one, and the message. Fails if memory is refused.
     pub fn sentence(&self, alloc: Global) -> Result<String, AllocError> {
         if self.subject.is_empty() {
             return self.message.clone();
@@ -126,8 +126,8 @@ impl Diagnostic {
         }
     }
 
-    /// Returns the subject, the message, the helps and the notes as a text of several lines. Fails if memory is
-    /// refused.
+    /// Formats the diagnostic on several lines: the subject and the message, the helps, and the notes. Fails if memory
+    /// is refused.
     pub fn paragraph(&self, alloc: Global) -> Result<String, AllocError> {
         let mut text = self.sentence(alloc)?;
         for help in &self.children.helps {
@@ -165,7 +165,7 @@ impl<'a> EmittedDiagnostic<'a> {
     }
 }
 
-/// Returns the position after the last character of a place in a text.
+/// Returns the position after the last character of a location in a text.
 pub fn end_of(text: &str, at: Location) -> Position {
     let start = Position {
         byte: at.span.start,
@@ -175,7 +175,7 @@ pub fn end_of(text: &str, at: Location) -> Position {
     start.behind(at.span.text_in(text).unwrap_or(""))
 }
 
-/// Returns the level of a diagnostic on a finding of this level, if no rule applies to it.
+/// Returns the level of a diagnostic for a finding of this level, if no rule applies to the diagnostic.
 pub fn lint_level(level: Level) -> DiagnosticLevel {
     match level {
         Level::Error => DiagnosticLevel::Error,

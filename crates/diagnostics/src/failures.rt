@@ -9,8 +9,8 @@ use manifests::reading::SyntaxError;
 use std::alloc::{AllocError, Global};
 use toml_spans::Span;
 
-/// Returns the diagnostic on a file that cannot be used, or on something that Cargo rejects, at this place if it is
-/// known. Fails if memory is refused.
+/// Returns the diagnostic for a file that cannot be used, or for something that Cargo rejects, with its location if it
+/// is known. Fails if memory is refused.
 pub fn diagnostic_of_failure(
     alloc: Global,
     message: String,
@@ -67,7 +67,7 @@ fn place_in_key(
     }
 }
 
-/// Returns the diagnostic on a key that cannot be used because of what is at this byte of it. Fails if memory is
+/// Returns the diagnostic for a key that cannot be used because of an error at this byte of the key. Fails if memory is
 /// refused.
 pub fn diagnostic_of_key(
     alloc: Global,

@@ -104,7 +104,7 @@ pub struct Rule {
     pub subject: Subject,
     /// The only key to which the rule applies. `None` applies to all.
     pub key: Option<String>,
-    /// The index of the entry in the list of the metadata that has the rule, if it is from there.
+    /// If the rule is from a manifest's metadata, the index of its entry in the list there.
     pub entry: Option<usize>,
 }
 
@@ -112,9 +112,9 @@ pub struct Rule {
 #[derive(Clone, Copy, Drop)]
 pub struct Occurrence<'a> {
     pub lint: Lint,
-    /// The key that it is about, if there is one.
+    /// The key of `target` that the diagnostic is about, if there is one.
     pub key: Option<&'a str>,
-    /// The level of its lint.
+    /// The level of the diagnostic before the rules.
     pub level: DiagnosticLevel,
 }
 

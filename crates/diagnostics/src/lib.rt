@@ -8,7 +8,7 @@
 
 mod diagnostic;
 mod failures;
-mod level_laws;
+pub mod laws;
 mod level_rules;
 mod removals;
 mod rendering;
@@ -20,7 +20,6 @@ pub use diagnostic::{
     Diagnostic, EmittedDiagnostic, Label, default_level, end_of, level_word, status_of,
 };
 pub use failures::{diagnostic_of_failure, diagnostic_of_key, diagnostic_of_syntax};
-pub use level_laws::{one_level, rules_that_do_not_apply_do_nothing, the_last_decides};
 pub use level_rules::{
     DiagnosticLevel, LintLevel, Occurrence, Rule, Subject, level_by, level_by_each,
 };

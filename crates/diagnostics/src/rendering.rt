@@ -25,7 +25,7 @@ struct Rows {
     below: Option<(usize, &'static str)>,
 }
 
-/// Returns the name of a level, in colour if `colours`.
+/// Formats the name of a level, in colour if `colours` is true.
 pub fn coloured(
     alloc: Global,
     level: DiagnosticLevel,
@@ -183,7 +183,7 @@ fn push_marked(
     let window = Window::around(text, first.at.span.start);
     let number = number_of(alloc, first.at.line, width)?;
     let gutter = " ".repeat(alloc, width)?;
-    let line = window.shown(alloc, text)?;
+    let line = window.printable_line(alloc, text)?;
     push_row(output, alloc, number.as_str(), line.as_str())?;
     let rows = rows_of(alloc, text, &window, marks)?;
     push_row(output, alloc, gutter.as_str(), rows.marks.as_str())?;
@@ -214,7 +214,7 @@ fn push_between(
     let window = Window::around(text, next.at.span.start);
     match window.line_before(text) {
         Some(between) if skipped == 2 => {
-            let line = between.shown(alloc, text)?;
+            let line = between.printable_line(alloc, text)?;
             let number = number_of(alloc, before.saturating_add(1), width)?;
             push_row(output, alloc, number.as_str(), line.as_str())
         }
@@ -317,7 +317,7 @@ fn head_of(
     }
 }
 
-/// Appends a diagnostic as rustc prints it for people, and an empty line. Fails if memory is refused.
+/// Appends a diagnostic in the layout of rustc's messages, followed by an empty line. Fails if memory is refused.
 pub fn push_rendered(
     output: &mut String,
     alloc: Global,

@@ -49,8 +49,8 @@ fn push_escaped(text: &mut String, alloc: Global, c: char) -> Result<(), AllocEr
     }
 }
 
-/// Returns a name as a key of TOML spells it: as a literal string, or as a basic string if it has to be escaped. Fails
-/// if memory is refused.
+/// Formats a name as a quoted key of TOML: a literal string, or a basic string if the name has to be escaped. Fails if
+/// memory is refused.
 pub fn quoted_key(alloc: Global, name: &str) -> Result<String, AllocError> {
     if !name.chars().any(needs_escape) {
         return format!(in alloc; "'{name}'");

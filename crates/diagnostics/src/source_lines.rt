@@ -1,6 +1,6 @@
 //! Lines of a manifest, as they are displayed.
 
-use cargo_platform::shown_text;
+use cargo_platform::printable_text;
 use std::alloc::{AllocError, Global};
 use unicode_width::UnicodeWidthChar;
 
@@ -110,8 +110,9 @@ impl Window {
         Some(Window::around(text, begin))
     }
 
-    /// Returns the displayed text. Fails if memory is refused.
-    pub fn shown(&self, alloc: Global, text: &str) -> Result<String, AllocError> {
+    /// Returns the part of the line in the window, as it is printed, with `...` at each side that is cut. Fails if
+    /// memory is refused.
+    pub fn printable_line(&self, alloc: Global, text: &str) -> Result<String, AllocError> {
         let line = text.get(self.start..self.end).unwrap_or("");
         let line = shown_line(alloc, without_return(line))?;
         let before = if self.is_cut_before { CUT } else { "" };
@@ -146,7 +147,7 @@ fn shown_line(alloc: Global, text: &str) -> Result<String, AllocError> {
             spaced.push(c)?;
         }
     }
-    shown_text(alloc, spaced.as_str())
+    printable_text(alloc, spaced.as_str())
 }
 
 /// Returns the number of columns of a displayed text.

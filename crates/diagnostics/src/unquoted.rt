@@ -2,7 +2,7 @@
 //! those with quotes that end at a value, as in `[target."cfg(target_os = "linux")".dependencies]`.
 
 use crate::replacements::quoted_key;
-use cargo_platform::shown_start;
+use cargo_platform::printable_excerpt;
 use manifests::key_locations::Location;
 use std::alloc::{AllocError, Global};
 use toml_spans::Span;
@@ -153,7 +153,7 @@ impl Unquoted {
     /// Returns what to do. Fails if memory is refused.
     pub fn advice(&self, alloc: Global, text: &str) -> Result<String, AllocError> {
         let mended = self.mended(alloc, text)?;
-        let shown = shown_start(alloc, mended.as_str())?;
+        let shown = printable_excerpt(alloc, mended.as_str())?;
         format!(in alloc; "quote the key: `{shown}`")
     }
 }

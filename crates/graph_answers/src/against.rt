@@ -3,12 +3,12 @@
 use cargo_metadata::Package as Described;
 use graph_queries::differences::difference_of;
 use graph_queries::graph::{Graph, source_of};
-use graph_queries::lines::{push, push_comma, shown, shown_targets};
+use graph_queries::lines::{format_targets, format_text, push, push_comma};
 use graph_queries::pairs::{MatchedPackage, matched_packages};
 use graph_queries::query::GraphQuery;
 use key_answers::answer::{Answer, QueryError, Status, argument_error};
 use key_answers::json_lines;
-use key_answers::printing::shown_name;
+use key_answers::printing::format_name;
 use key_answers::targets::TargetList;
 use known_targets::TargetSet;
 use serde::Serialize;
@@ -59,7 +59,7 @@ type ChangeKinds = [bool; 7];
 
 /// Returns the message for a word that names no kind of change.
 fn no_kind(alloc: Global, word: &str) -> Result<String, AllocError> {
-    let shown = shown_name(alloc, word)?;
+    let shown = format_name(alloc, word)?;
     let kinds = "added, removed, updated, targets, licence, source and features";
     format!(in alloc; "--fail-on names {kinds}, joined by commas, and not {shown}")
 }
@@ -280,8 +280,8 @@ fn push_texts(
     old: Option<&str>,
     new: Option<&str>,
 ) -> Result<(), AllocError> {
-    let old = shown(alloc, old.unwrap_or("none"))?;
-    let new = shown(alloc, new.unwrap_or("none"))?;
+    let old = format_text(alloc, old.unwrap_or("none"))?;
+    let new = format_text(alloc, new.unwrap_or("none"))?;
     let note = format!(in alloc; "{what} {old} -> {new}")?;
     push_note(notes, note.as_str())
 }
@@ -294,7 +294,7 @@ fn push_features(
     names: &[&str],
 ) -> Result<(), AllocError> {
     for name in names {
-        let name = shown(alloc, name)?;
+        let name = format_text(alloc, name)?;
         let note = format!(in alloc; "{sign}{name}")?;
         push_note(notes, note.as_str())?;
     }
@@ -312,7 +312,7 @@ fn push_targets(
     if targets.is_empty() {
         return Ok(());
     }
-    let targets = shown_targets(alloc, targets, query)?;
+    let targets = format_targets(alloc, targets, query)?;
     let note = format!(in alloc; "{what} {targets}")?;
     push_note(notes, note.as_str())
 }
@@ -342,15 +342,15 @@ fn notes_on(
 
 /// Returns the name of a package with its version, or with both versions if it is updated.
 fn package_of(alloc: Global, change: &Change<'_>) -> Result<String, AllocError> {
-    let name = shown(alloc, change.name)?;
+    let name = format_text(alloc, change.name)?;
     match (&change.old, &change.new) {
         (Some(old), Some(new)) if old.version != new.version => {
-            let old = shown(alloc, old.version)?;
-            let new = shown(alloc, new.version)?;
+            let old = format_text(alloc, old.version)?;
+            let new = format_text(alloc, new.version)?;
             format!(in alloc; "{name} {old} -> {new}")
         }
         (_, Some(it)) | (Some(it), None) => {
-            let version = shown(alloc, it.version)?;
+            let version = format_text(alloc, it.version)?;
             format!(in alloc; "{name} {version}")
         }
         (None, None) => Ok(name),
@@ -366,7 +366,7 @@ fn row_of(alloc: Global, change: &Change<'_>, query: &GraphQuery<'_>) -> Result<
     Ok(Row {
         word: change.word,
         package: package_of(alloc, change)?,
-        targets: shown_targets(alloc, targets, query)?,
+        targets: format_targets(alloc, targets, query)?,
         notes: notes_on(alloc, change, query)?,
     })
 }

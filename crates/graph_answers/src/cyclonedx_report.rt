@@ -3,7 +3,7 @@
 use crate::components::{ListedPackage, is_root, listed_packages};
 use crate::dates::time_of;
 use crate::graph::Graph;
-use crate::lines::{shown, shown_package};
+use crate::lines::{format_package, format_text};
 use crate::query::{GraphArguments, GraphQuery};
 use cyclonedx::{
     Bom, BomMetadata, Component, Edge, LockFile, Node, Property, ToolComponent, Tools,
@@ -394,9 +394,9 @@ fn not_locked(
     lock: &str,
     package: &ListedPackage<'_>,
 ) -> Result<String, AllocError> {
-    let shown_package = shown_package(alloc, &package.described)?;
-    let source = shown(alloc, package.source().unwrap_or(""))?;
-    format!(in alloc; "{lock} has no package {shown_package} from {source}")
+    let format_package = format_package(alloc, &package.described)?;
+    let source = format_text(alloc, package.source().unwrap_or(""))?;
+    format!(in alloc; "{lock} has no package {format_package} from {source}")
 }
 
 /// Rejects the document if the lock file lacks one of its packages that come from registries.

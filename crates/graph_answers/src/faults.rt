@@ -1,7 +1,7 @@
 //! The span and the reason of an error in a licence expression, for text output.
 
 use crate::lines::push;
-use cargo_platform::shown_text;
+use cargo_platform::printable_text;
 use spdx_expressions::ParseError;
 use std::alloc::{AllocError, Global};
 
@@ -55,7 +55,7 @@ pub fn fault_lines(alloc: Global, error: &ParseError) -> Result<String, AllocErr
     if inside == 0 {
         push(&mut marks, "^")?;
     }
-    let part = shown_text(alloc, part.as_str())?;
+    let part = printable_text(alloc, part.as_str())?;
     let message = fault_message(alloc, error)?;
     let (left, margin) = if first > 0 { ("..", "  ") } else { ("", "") };
     let right = if end < place { ".." } else { "" };

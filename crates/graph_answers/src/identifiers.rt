@@ -1,7 +1,7 @@
 //! Warnings about identifiers that are not in SPDX's licence list, and notes about deprecated ones.
 
 use crate::lines::push;
-use cargo_platform::shown_start;
+use cargo_platform::printable_excerpt;
 use licence_policies::{deprecated_message, is_listed, unlisted_messages};
 use spdx_expressions::{Licence, LicenceExpression, Part};
 use std::alloc::{AllocError, Global};
@@ -116,7 +116,7 @@ fn push_slash(
         return Ok(());
     }
     let expression = format!(in alloc; "{expression}")?;
-    let shown = shown_start(alloc, expression.as_str())?;
+    let shown = printable_excerpt(alloc, expression.as_str())?;
     let message = format!(in alloc; "`/` is deprecated in licences; write `{shown}`")?;
     push_message(text, alloc, place, "note", message.as_str())
 }

@@ -11,9 +11,9 @@ use crate::lines::push;
 use crate::policies::AuditPolicy;
 use crate::query::{GraphArguments, GraphQuery, argument_error};
 use crate::unused::report_unused;
-use cargo_platform::shown_text;
+use cargo_platform::printable_text;
 use key_answers::answer::{Answer, QueryError, Status};
-use key_answers::printing::shown_name;
+use key_answers::printing::format_name;
 use licence_audits::{Exception, Finding, PackageFinding, PackageSpec, Subject, audit};
 use licence_policies::{ExceptionError, exception_of};
 use spdx_expressions::{Licence, ParseError, ReadError};
@@ -80,7 +80,7 @@ fn add_lines(
     file: &str,
     text: &str,
 ) -> Result<(), QueryError> {
-    let file = shown_text(alloc, file)?;
+    let file = printable_text(alloc, file)?;
     let mut number: usize = 0;
     for line in text.lines() {
         number = number.saturating_add(1);
@@ -95,7 +95,7 @@ fn add_lines(
 
 /// Returns the message for an argument that is not an exception.
 fn no_exception(alloc: Global, word: &str, error: &ExceptionError) -> Result<String, AllocError> {
-    let shown = shown_name(alloc, word)?;
+    let shown = format_name(alloc, word)?;
     match error {
         ExceptionError::NoRange(reason) => {
             let reason = reason.as_str();
@@ -284,7 +284,7 @@ fn messages_on(
         ) else {
             continue;
         };
-        let name = graph.shown(alloc, *index)?;
+        let name = graph.format_package(alloc, *index)?;
         let license = match graph.described(*index) {
             Some(described) if !query.json => described.license,
             _ => None,

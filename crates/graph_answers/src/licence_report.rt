@@ -4,10 +4,10 @@
 use crate::dependency_paths::PackagesOn;
 use crate::faults::fault_lines;
 use crate::graph::Graph;
-use crate::lines::{push, push_comma, shown, shown_targets};
+use crate::lines::{format_targets, format_text, push, push_comma};
 use crate::query::GraphQuery;
 use cargo_metadata::Package as Described;
-use cargo_platform::shown_start;
+use cargo_platform::printable_excerpt;
 use known_targets::TargetSet;
 use licence_audits::{Finding, PackageFinding, Subject};
 use std::alloc::{AllocError, Global};
@@ -59,7 +59,7 @@ impl Reason {
 }
 
 /// Formats a finding on a package: the expression, or why there is none.
-fn shown_finding(
+fn format_finding(
     alloc: Global,
     finding: &Finding,
     described: &Described<'_>,
@@ -67,10 +67,10 @@ fn shown_finding(
     match (finding, described.license_file) {
         (Finding::NotAllowed(expression), _) => {
             let text = format!(in alloc; "{expression}")?;
-            shown_start(alloc, text.as_str())
+            printable_excerpt(alloc, text.as_str())
         }
         (Finding::Missing, Some(file)) => {
-            let file = shown(alloc, file)?;
+            let file = format_text(alloc, file)?;
             format!(in alloc; "licence file {file}")
         }
         (Finding::Missing, None) => String::from_str(alloc, "no licence"),
@@ -94,7 +94,7 @@ fn sorted_labels(
             continue;
         };
         if let Some(described) = graph.described(*index) {
-            labels.push((shown_finding(alloc, &one.finding, described)?, place))?;
+            labels.push((format_finding(alloc, &one.finding, described)?, place))?;
         }
     }
     labels.sort()?;
@@ -150,7 +150,10 @@ impl<'r, 'a> LicenceReport<'r, 'a> {
             if place > 0 {
                 push(text, " -> ")?;
             }
-            push(text, self.graph.shown(alloc, path[place])?.as_str())?;
+            push(
+                text,
+                self.graph.format_package(alloc, path[place])?.as_str(),
+            )?;
         }
         push(text, "\n")
     }
@@ -167,9 +170,9 @@ impl<'r, 'a> LicenceReport<'r, 'a> {
         let Some(index) = self.index_of(place) else {
             return Ok(());
         };
-        let package = self.graph.shown(alloc, index)?;
+        let package = self.graph.format_package(alloc, index)?;
         let built = self.graph.built(index, self.query);
-        let targets = shown_targets(alloc, built.targets(), self.query)?;
+        let targets = format_targets(alloc, built.targets(), self.query)?;
         let note = built.sides().note();
         let line = format!(in alloc; "{start}{package}{note}, {targets}\n")?;
         push(text, line.as_str())?;
@@ -205,7 +208,7 @@ impl<'r, 'a> LicenceReport<'r, 'a> {
             }
             return Ok(());
         }
-        let targets = shown_targets(alloc, self.targets_of(group), self.query)?;
+        let targets = format_targets(alloc, self.targets_of(group), self.query)?;
         let count = group.len();
         let line = format!(in alloc; "{label}: {count} packages, {targets}\n")?;
         push(text, line.as_str())?;
@@ -254,7 +257,7 @@ fn reasons_of(
 
 /// Formats the number of packages for each reason, in brackets after a space. It is empty if each licence is one that
 /// is not allowed.
-fn shown_reasons(alloc: Global, reasons: &[Reason]) -> Result<String, AllocError> {
+fn format_reasons(alloc: Global, reasons: &[Reason]) -> Result<String, AllocError> {
     let mut parts = String::new(alloc);
     if reasons.iter().all(|reason| *reason == Reason::NotAllowed) {
         return Ok(parts);
@@ -279,7 +282,7 @@ pub fn counts_line(
     subjects: &[Subject<'_>],
 ) -> Result<String, AllocError> {
     let reasons = reasons_of(alloc, graph, findings)?;
-    let reasons = shown_reasons(alloc, &reasons)?;
+    let reasons = format_reasons(alloc, &reasons)?;
     let count = findings.len();
     let all = subjects.iter().filter(|subject| subject.is_present).count();
     format!(in alloc; "{count} of {all} packages have a licence that is not allowed{reasons}\n")

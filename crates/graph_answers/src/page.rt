@@ -3,10 +3,10 @@
 //! Each text of the document is formatted as in text output, and written with `push_text`, which escapes HTML markup.
 
 use crate::dates::day_of;
-use cargo_platform::shown_text;
+use cargo_platform::printable_text;
 use graph_queries::classes::{Class, classes_at};
 use graph_queries::graph::Graph;
-use graph_queries::lines::{joined_names, shown, shown_count};
+use graph_queries::lines::{format_target_count, format_text, joined_names};
 use graph_queries::packages::{ReachingKinds, count_present, kinds_reached};
 use graph_queries::query::{GraphQuery, Provenance};
 use html_pages::Page;
@@ -108,7 +108,7 @@ fn push_title(page: &mut Page, alloc: Global, graph: &Graph<'_>) -> Result<(), A
 /// Writes the command that made the page, and the date.
 fn push_made(page: &mut Page, alloc: Global, made: Provenance<'_>) -> Result<(), AllocError> {
     add_markup(page, "<p class=\"made\">Made by <code>")?;
-    let command = shown_text(alloc, made.command)?;
+    let command = printable_text(alloc, made.command)?;
     add_text(page, command.as_str())?;
     add_markup(page, "</code>")?;
     let day = match made.seconds {
@@ -155,7 +155,7 @@ fn push_summary(
 ) -> Result<(), AllocError> {
     let all = graph.order.len();
     let count = count_present(graph, query);
-    let targets = shown_count(alloc, query.count)?;
+    let targets = format_target_count(alloc, query.count)?;
     let source = source_of(alloc, query)?;
     let text = format!(in alloc;
         "{count} of {all} packages are in the build, on some of {targets} of {source}."
@@ -202,11 +202,11 @@ fn push_class(
     push_number(page, alloc, class.number)?;
     add_markup(page, "</th><td><code>")?;
     if let Some(condition) = &class.condition {
-        let condition = shown_text(alloc, condition.as_str())?;
+        let condition = printable_text(alloc, condition.as_str())?;
         add_text(page, condition.as_str())?;
     }
     add_markup(page, "</code></td><td>")?;
-    let count = shown_count(alloc, query.count_of(class.targets))?;
+    let count = format_target_count(alloc, query.count_of(class.targets))?;
     add_text(page, count.as_str())?;
     add_markup(page, ": <code>")?;
     let names = joined_names(alloc, class.targets, query)?;
@@ -221,13 +221,13 @@ fn push_class_head(
     class: &Class,
     query: &GraphQuery<'_>,
 ) -> Result<(), AllocError> {
-    let count = shown_count(alloc, query.count_of(class.targets))?;
+    let count = format_target_count(alloc, query.count_of(class.targets))?;
     add_markup(page, "<th class=\"class\" scope=\"col\"><a href=\"#class-")?;
     push_number(page, alloc, class.number)?;
     add_markup(page, "\" title=\"")?;
     add_text(page, count.as_str())?;
     if let Some(condition) = &class.condition {
-        let condition = shown_text(alloc, condition.as_str())?;
+        let condition = printable_text(alloc, condition.as_str())?;
         add_markup(page, " where ")?;
         add_text(page, condition.as_str())?;
     }
@@ -389,6 +389,6 @@ fn push_dots(page: &mut Page, targets: TargetSet, classes: &[Class]) -> Result<(
 
 /// Writes a text of the document, formatted as in text output.
 fn push_shown(page: &mut Page, alloc: Global, text: &str) -> Result<(), AllocError> {
-    let text = shown(alloc, text)?;
+    let text = format_text(alloc, text)?;
     add_text(page, text.as_str())
 }

@@ -1,7 +1,7 @@
 //! `--policy`: the arguments that a policy stands for, and its table of licences.
 
 use crate::query::{FeatureArguments, GraphArguments};
-use cargo_platform::{shown_start, shown_text};
+use cargo_platform::{printable_excerpt, printable_text};
 use diagnostics::DiagnosticLevel;
 use key_answers::answer::QueryError;
 use known_targets::{KnownTarget, RUSTC_VERSION};
@@ -38,7 +38,7 @@ fn unknown_targets(
     let mut text = String::new(alloc);
     for (name, at) in &graph.targets {
         if KnownTarget::by_name(name.as_str()).is_none() {
-            let shown = shown_start(alloc, name.as_str())?;
+            let shown = printable_excerpt(alloc, name.as_str())?;
             let meant = match nearest_target(alloc, name.as_str())? {
                 Some(meant) => format!(in alloc; "; did you mean `{meant}`?")?,
                 None => String::new(alloc),
@@ -62,7 +62,7 @@ pub fn policy_of(
     let Some((file, text)) = arguments.policy else {
         return Ok(None);
     };
-    let file = shown_text(alloc, file)?;
+    let file = printable_text(alloc, file)?;
     let policy = Policy::read(alloc, file.as_str(), text)?;
     let messages = policy.rendered(alloc)?;
     if !policy.is_valid() {

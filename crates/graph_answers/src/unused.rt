@@ -3,7 +3,7 @@
 use crate::licence_audit::Audit;
 use crate::lines::push;
 use crate::policies::AuditPolicy;
-use cargo_platform::shown_start;
+use cargo_platform::printable_excerpt;
 use diagnostics::DiagnosticLevel;
 use key_answers::answer::{Answer, Status};
 use licence_audits::{Subject, is_unused_entry, is_unused_exception};
@@ -94,7 +94,7 @@ fn report_arguments(
     let exceptions = audit.exceptions.get(of_policy..).unwrap_or(&[]);
     for (exception, word) in exceptions.iter().zip(audit.except.iter()) {
         if is_unused_exception(alloc, exception, subjects)? {
-            let shown = shown_start(alloc, word)?;
+            let shown = printable_excerpt(alloc, word)?;
             let line = format!(in alloc; "warning: --except: no package needs `{shown}`\n")?;
             push(&mut answer.errors, line.as_str())?;
         }

@@ -4,7 +4,7 @@ use crate::origins::{Origin, origins_at};
 use cargo_platform::{CfgExpr, Platform};
 use graph_queries::edges::{Edge, edges_followed};
 use graph_queries::graph::Graph;
-use graph_queries::lines::{kind_word, push, shown_condition, shown_targets};
+use graph_queries::lines::{format_condition, format_targets, kind_word, push};
 use graph_queries::origins::dependency_sides;
 use graph_queries::query::GraphQuery;
 use key_answers::answer::{Answer, Status};
@@ -98,11 +98,11 @@ pub fn show_edges(
 }
 
 /// Formats the kind and the condition of an edge: `normal`, or `build where cfg(unix)`.
-pub fn shown_kind(alloc: Global, edge: &Edge<'_>) -> Result<String, AllocError> {
+pub fn format_kind(alloc: Global, edge: &Edge<'_>) -> Result<String, AllocError> {
     let word = kind_word(edge.kind);
     match &edge.condition {
         Some(condition) => {
-            let condition = shown_condition(alloc, condition)?;
+            let condition = format_condition(alloc, condition)?;
             format!(in alloc; "{word} where {condition}")
         }
         None => String::from_str(alloc, word),
@@ -117,11 +117,11 @@ fn push_line(
     edge: &Edge<'_>,
     query: &GraphQuery<'_>,
 ) -> Result<(), AllocError> {
-    let from = graph.shown(alloc, edge.from)?;
-    let to = graph.shown(alloc, edge.to)?;
-    let kind = shown_kind(alloc, edge)?;
+    let from = graph.format_package(alloc, edge.from)?;
+    let to = graph.format_package(alloc, edge.to)?;
+    let kind = format_kind(alloc, edge)?;
     let followed = graph.followed(edge.from, edge.place, query);
-    let targets = shown_targets(alloc, followed.targets(), query)?;
+    let targets = format_targets(alloc, followed.targets(), query)?;
     let note = followed.sides().note();
     let line = format!(in alloc; "{from} -> {to}, {kind}{note}: {targets}\n")?;
     push(text, line.as_str())

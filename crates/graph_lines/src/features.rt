@@ -2,7 +2,7 @@
 
 use graph_queries::ResolvedFeatures;
 use graph_queries::graph::Graph;
-use graph_queries::lines::{push, shown, shown_targets};
+use graph_queries::lines::{format_targets, format_text, push};
 use graph_queries::packages::name_and_version;
 use graph_queries::query::GraphQuery;
 use graph_queries::sides::{is_selected, side_note, side_word};
@@ -101,9 +101,9 @@ fn push_line(
     on: &On<'_>,
     query: &GraphQuery<'_>,
 ) -> Result<(), AllocError> {
-    let package = graph.shown(alloc, on.index)?;
-    let name = shown(alloc, on.name)?;
-    let targets = shown_targets(alloc, on.targets, query)?;
+    let package = graph.format_package(alloc, on.index)?;
+    let name = format_text(alloc, on.name)?;
+    let targets = format_targets(alloc, on.targets, query)?;
     let note = side_note(on.side);
     let line = format!(in alloc; "{package} {name}{note}: {targets}\n")?;
     push(text, line.as_str())

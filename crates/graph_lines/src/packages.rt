@@ -1,10 +1,10 @@
 //! `--show packages`: the targets on which each package is in the build.
 
-use crate::reasons::{LeftOut, left_out_of, shown_reasons};
+use crate::reasons::{LeftOut, format_reasons, left_out_of};
 use cargo_metadata::Metadata;
 use cargo_metadata::graphs::Linked;
 use graph_queries::graph::Graph;
-use graph_queries::lines::{push, shown_targets};
+use graph_queries::lines::{format_targets, push};
 use graph_queries::packages::{ReachingKinds, count_present, kinds_reached, name_and_version};
 use graph_queries::query::GraphQuery;
 use graph_queries::reasons::{Reason, Reasons};
@@ -122,10 +122,10 @@ fn push_line(
     listed: &ListedPackage,
     query: &GraphQuery<'_>,
 ) -> Result<(), AllocError> {
-    let package = graph.shown(alloc, listed.index)?;
+    let package = graph.format_package(alloc, listed.index)?;
     let built = graph.built(listed.index, query);
-    let targets = shown_targets(alloc, built.targets(), query)?;
-    let reasons = shown_reasons(alloc, &listed.left_out, query)?;
+    let targets = format_targets(alloc, built.targets(), query)?;
+    let reasons = format_reasons(alloc, &listed.left_out, query)?;
     let note = built.sides().note();
     let line = format!(in alloc; "{package}{note}: {targets}{reasons}\n")?;
     push(text, line.as_str())

@@ -1,6 +1,6 @@
 //! The reasons why packages are left out, as they are printed.
 
-use graph_queries::lines::{push, shown_targets};
+use graph_queries::lines::{format_targets, push};
 use graph_queries::query::GraphQuery;
 use graph_queries::reasons::Reason;
 use key_answers::targets::TargetList;
@@ -9,7 +9,7 @@ use serde::Serialize;
 use std::alloc::{AllocError, Global};
 
 /// Formats the reasons why a package is left out, as a part of its line.
-pub fn shown_reasons(
+pub fn format_reasons(
     alloc: Global,
     reasons: &Option<Vec<(Reason, TargetSet)>>,
     query: &GraphQuery<'_>,
@@ -20,7 +20,7 @@ pub fn shown_reasons(
     };
     for (reason, targets) in reasons {
         let reason = reason.text;
-        let targets = shown_targets(alloc, *targets, query)?;
+        let targets = format_targets(alloc, *targets, query)?;
         let part = format!(in alloc; "; not at {targets}: {reason}")?;
         push(&mut text, part.as_str())?;
     }

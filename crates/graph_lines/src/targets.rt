@@ -1,9 +1,9 @@
 //! `--show targets`: the classes of targets that no package distinguishes, and the packages of each class.
 
-use cargo_platform::shown_text;
+use cargo_platform::printable_text;
 use graph_queries::classes::{Class, classes_at};
 use graph_queries::graph::Graph;
-use graph_queries::lines::{joined_names, push, push_comma, shown_count};
+use graph_queries::lines::{format_target_count, joined_names, push, push_comma};
 use graph_queries::query::GraphQuery;
 use key_answers::answer::{Answer, Status};
 use key_answers::json_lines;
@@ -59,11 +59,11 @@ fn push_line(
     query: &GraphQuery<'_>,
 ) -> Result<(), AllocError> {
     let number = class.number;
-    let count = shown_count(alloc, query.count_of(class.targets))?;
+    let count = format_target_count(alloc, query.count_of(class.targets))?;
     let names = joined_names(alloc, class.targets, query)?;
     let line = match &class.condition {
         Some(condition) => {
-            let condition = shown_text(alloc, condition.as_str())?;
+            let condition = printable_text(alloc, condition.as_str())?;
             format!(in alloc; "class {number}: {count} where {condition}: {names}\n")?
         }
         None => format!(in alloc; "class {number}: {count}: {names}\n")?,
@@ -79,7 +79,7 @@ fn push_table(
     classes: &[Class],
 ) -> Result<(), AllocError> {
     for i in &graph.order {
-        let package = graph.shown(alloc, *i)?;
+        let package = graph.format_package(alloc, *i)?;
         push(text, package.as_str())?;
         push_classes(text, alloc, graph.present(*i), classes)?;
     }

@@ -2,7 +2,7 @@
 
 use graph_queries::ResolvedFeatures;
 use graph_queries::graph::Graph;
-use graph_queries::lines::{push, shown, shown_targets};
+use graph_queries::lines::{format_targets, format_text, push};
 use graph_queries::packages::name_and_version;
 use graph_queries::query::GraphQuery;
 use graph_queries::sides::{is_selected, side_note, side_word};
@@ -146,8 +146,8 @@ fn push_line(
     built: &Built<'_>,
     query: &GraphQuery<'_>,
 ) -> Result<(), AllocError> {
-    let package = graph.shown(alloc, built.index)?;
-    let targets = shown_targets(alloc, built.targets, query)?;
+    let package = graph.format_package(alloc, built.index)?;
+    let targets = format_targets(alloc, built.targets, query)?;
     let note = side_note(built.side);
     let begin = format!(in alloc; "{package}{note}: {targets}:")?;
     push(text, begin.as_str())?;
@@ -155,7 +155,7 @@ fn push_line(
         push(text, " no feature")?;
     }
     for name in &built.features {
-        let name = shown(alloc, name)?;
+        let name = format_text(alloc, name)?;
         push(text, " ")?;
         push(text, name.as_str())?;
     }

@@ -1,17 +1,17 @@
 //! `--show why`: a shortest dependency path from a root to each package of a name, on each target on which the package
 //! is in the build.
 
-use crate::edges::{PathStep, shown_kind, step_of};
+use crate::edges::{PathStep, format_kind, step_of};
 use cargo_metadata::Package as Described;
 use graph_queries::classes::selected_classes;
 use graph_queries::edges::{Edge, edges_of};
 use graph_queries::graph::Graph;
-use graph_queries::lines::{joined_names, push, push_comma, shown_count};
+use graph_queries::lines::{format_target_count, joined_names, push, push_comma};
 use graph_queries::packages::name_and_version;
 use graph_queries::query::GraphQuery;
 use key_answers::answer::{Answer, Status, answer_or_error, file_error};
 use key_answers::json_lines;
-use key_answers::printing::shown_name;
+use key_answers::printing::format_name;
 use key_answers::targets::TargetList;
 use known_targets::{KnownTarget, TargetSet};
 use package_graphs::{Step, shortest_path, shortest_path_on};
@@ -128,7 +128,7 @@ pub fn show_why(
     if is_known {
         return Ok(answer);
     }
-    let name = shown_name(alloc, query.of)?;
+    let name = format_name(alloc, query.of)?;
     let reason = format!(in alloc; "no package of the graph is named {name}")?;
     answer_or_error(alloc, Err(file_error(alloc, file, reason.as_str())))
 }
@@ -148,7 +148,7 @@ fn edge_of<'a>(
 }
 
 /// Returns the numbers of the classes of some targets, after `part of` if it is not all of these classes.
-fn shown_classes(
+fn format_classes(
     alloc: Global,
     targets: TargetSet,
     classes: &[TargetSet],
@@ -173,7 +173,7 @@ fn shown_classes(
 }
 
 /// Returns the targets of a path as they are shown: `all` selected ones, few by name, or how many of which classes.
-fn shown_way(
+fn format_path_targets(
     alloc: Global,
     targets: TargetSet,
     classes: &[TargetSet],
@@ -183,12 +183,12 @@ fn shown_way(
         return String::from_str(alloc, "all");
     }
     let number = query.count_of(targets);
-    let count = shown_count(alloc, number)?;
+    let count = format_target_count(alloc, number)?;
     if query.are_named && number <= MOST_NAMES {
         let names = joined_names(alloc, targets, query)?;
         return format!(in alloc; "{count}: {names}");
     }
-    let classes = shown_classes(alloc, targets, classes, query)?;
+    let classes = format_classes(alloc, targets, classes, query)?;
     format!(in alloc; "{count}: {classes}")
 }
 
@@ -200,13 +200,13 @@ fn lines_of(
     classes: &[TargetSet],
     query: &GraphQuery<'_>,
 ) -> Result<String, AllocError> {
-    let package = graph.shown(alloc, ways.index)?;
+    let package = graph.format_package(alloc, ways.index)?;
     if ways.ways.is_empty() {
         return format!(in alloc; "{package}: nowhere\n");
     }
     let mut text = String::new(alloc);
     for way in &ways.ways {
-        let targets = shown_way(alloc, way.targets, classes, query)?;
+        let targets = format_path_targets(alloc, way.targets, classes, query)?;
         let line = format!(in alloc; "{package}: {targets}\n")?;
         push(&mut text, line.as_str())?;
         push_path(&mut text, alloc, graph, ways.index, way)?;
@@ -226,15 +226,15 @@ fn push_path(
         Some(step) => step.from,
         None => index,
     };
-    let package = graph.shown(alloc, root)?;
+    let package = graph.format_package(alloc, root)?;
     let line = format!(in alloc; "    {package}, a member of the workspace\n")?;
     push(text, line.as_str())?;
     for step in &way.steps {
         let Some(edge) = edge_of(alloc, graph, step)? else {
             continue;
         };
-        let kind = shown_kind(alloc, &edge)?;
-        let package = graph.shown(alloc, edge.to)?;
+        let kind = format_kind(alloc, &edge)?;
+        let package = graph.format_package(alloc, edge.to)?;
         let line = format!(in alloc; "    -> {package}, {kind}\n")?;
         push(text, line.as_str())?;
     }

@@ -1,4 +1,4 @@
-//! The classes of targets that no package distinguishes.
+//! The classes of targets on which the same packages are in the build.
 
 use crate::edges::edges_of;
 use crate::graph::Graph;
@@ -8,13 +8,14 @@ use known_targets::{TargetSet, classes};
 use selected_targets::ConditionSearch;
 use std::alloc::{AllocError, Global};
 
-/// A class of targets, and a condition that is true on exactly these of the selected targets, if one was found.
+/// A class of targets on which the same packages are in the build.
 #[derive(Drop)]
 pub struct Class {
     /// The number of the class, from 1 on.
     pub number: usize,
     /// The selected targets of the class.
     pub targets: TargetSet,
+    /// A condition that is true on exactly these of the selected targets, if one was found.
     pub condition: Option<String>,
 }
 
@@ -63,7 +64,8 @@ fn sets_of(alloc: Global, graph: &Graph<'_>) -> Result<Vec<TargetSet>, AllocErro
     Ok(sets)
 }
 
-/// Returns the classes that have a selected target. `--show targets` gives them numbers in this order, from 1 on.
+/// Returns the classes that contain a selected target, sorted by their first targets. `--show targets` numbers them in
+/// this order, from 1 on. A class also contains its targets that are not selected.
 pub fn selected_classes(
     alloc: Global,
     graph: &Graph<'_>,
@@ -86,7 +88,8 @@ fn condition_of(
     }
 }
 
-/// Returns the classes that contain a selected target, sorted by their first targets, each with its condition.
+/// Returns the classes that contain a selected target, in the order of [`selected_classes`], each with its number, its
+/// selected targets and a condition for them.
 pub fn classes_at(
     alloc: Global,
     graph: &Graph<'_>,

@@ -68,7 +68,7 @@ fn is_followed(graph: &Graph<'_>, edge: &Edge<'_>, kinds: Kinds) -> bool {
     }
 }
 
-/// Returns the edges of a package that are of these dependency kinds. Fails if memory is refused.
+/// Returns the edges of a package that a query of these dependency kinds follows. Fails if memory is refused.
 pub fn edges_followed<'a>(
     alloc: Global,
     graph: &Graph<'a>,

@@ -1,6 +1,6 @@
 //! A graph of packages, with the targets on which each package is in the build.
 
-use crate::lines::{shown, shown_package};
+use crate::lines::{format_package, format_text};
 use crate::query::GraphQuery;
 use crate::resolving::ResolvedFeatures;
 use crate::sides::{BySide, is_selected};
@@ -22,7 +22,7 @@ pub struct Graph<'a> {
     pub side: Option<Side>,
     /// The indexes of the packages, sorted by name, version and id.
     pub order: Vec<usize>,
-    /// For each package whether another one has its name and version.
+    /// For each package, whether another one has the same name and version.
     pub twins: Vec<bool>,
     /// The resolved features, if feature resolution is requested.
     pub features: Option<ResolvedFeatures<'a>>,
@@ -52,18 +52,18 @@ impl<'a> Graph<'a> {
         })
     }
 
-    /// Returns the selected targets on which a package is in the build.
+    /// Returns the targets of a query on which a package is in the build for some selected side.
     pub fn at(&self, index: usize, query: &GraphQuery<'_>) -> TargetSet {
         self.built(index, query).targets()
     }
 
-    /// Returns the targets on which a package is in the build, for a selected side.
+    /// Returns the targets on which a package is in the build for some selected side.
     pub fn present(&self, index: usize) -> TargetSet {
         let target = self.present_on(index, Side::Target);
         target.union(self.present_on(index, Side::Host))
     }
 
-    /// Returns the selected targets on which a package is in the build, for each selected side.
+    /// Returns, for each selected side, the targets of a query on which a package is in the build for that side.
     pub fn built(&self, index: usize, query: &GraphQuery<'_>) -> BySide {
         let built = BySide {
             target: self.present_on(index, Side::Target),
@@ -83,8 +83,8 @@ impl<'a> Graph<'a> {
         }
     }
 
-    /// Returns the targets on which dependencies lead to a package, for a selected side, whether features leave it out
-    /// or not.
+    /// Returns the targets on which dependencies lead to a package for some selected side, also those on which features
+    /// leave it out.
     pub fn targets_before_features(&self, index: usize) -> TargetSet {
         match self.side {
             Some(side) => self.sets.on(index, side),
@@ -92,8 +92,8 @@ impl<'a> Graph<'a> {
         }
     }
 
-    /// Returns the selected targets on which a dependency is followed, for each selected side to which it leads.
-    /// `place` is its index among those of the package.
+    /// Returns, for each selected side, the targets of a query on which a dependency is followed to that side. `place`
+    /// is its index among the dependencies of the package.
     pub fn followed(&self, index: usize, place: usize, query: &GraphQuery<'_>) -> BySide {
         let followed = BySide {
             target: self.following_to(index, place, Side::Target, query),
@@ -146,22 +146,23 @@ impl<'a> Graph<'a> {
         }
     }
 
-    /// Returns the package at a place as it is shown: its name and version, and its source if it has a twin.
-    pub fn shown(&self, alloc: Global, index: usize) -> Result<String, AllocError> {
+    /// Formats the name and the version of the package at an index for text output, with its source if another package
+    /// has the same name and version. Fails if memory is refused.
+    pub fn format_package(&self, alloc: Global, index: usize) -> Result<String, AllocError> {
         let Some(described) = self.described(index) else {
             return Ok(String::new(alloc));
         };
-        let package = shown_package(alloc, described)?;
+        let package = format_package(alloc, described)?;
         match self.source(index) {
             Some(source) => {
-                let source = shown(alloc, source)?;
+                let source = format_text(alloc, source)?;
                 format!(in alloc; "{package} ({source})")
             }
             None => Ok(package),
         }
     }
 
-    /// Returns the source of a package if another one has its name and version.
+    /// Returns the source of a package, if another package has the same name and version.
     pub fn source(&self, index: usize) -> Option<&'a str> {
         if self.twins.get(index).copied() != Some(true) {
             return None;
@@ -169,8 +170,8 @@ impl<'a> Graph<'a> {
         Some(source_of(self.described(index)?.id))
     }
 
-    /// Returns the features of a package that are on for a selected target and side, if features are resolved. Fails if
-    /// memory is refused.
+    /// Returns the names of a package's features that are enabled on a selected target for a selected side. There are
+    /// none if features are not resolved. Fails if memory is refused.
     pub fn features_on(
         &self,
         alloc: Global,
@@ -251,7 +252,8 @@ fn twins_of(
     Ok(twins)
 }
 
-/// Returns the source in an id, `SOURCE#NAME@VERSION` or `NAME VERSION (SOURCE)`; the whole id if there is none.
+/// Returns the source in a package id, `SOURCE#NAME@VERSION` or `NAME VERSION (SOURCE)`, or the whole id if it has
+/// neither form.
 pub fn source_of<'a>(id: &'a str) -> &'a str {
     if let Some((source, _)) = id.split_once('#') {
         return source;

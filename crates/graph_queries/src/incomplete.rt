@@ -1,6 +1,6 @@
-//! The reasons why documents are rejected that lack the edge of a dependency that is on.
+//! The reasons why incomplete documents are rejected: they lack the edge of a dependency that is enabled.
 
-use crate::lines::{shown, shown_package};
+use crate::lines::{format_package, format_text};
 use crate::refused::COMMAND;
 use cargo_features::Resolved;
 use declared_features::{
@@ -8,18 +8,19 @@ use declared_features::{
 };
 use std::alloc::{AllocError, Global};
 
-/// Returns what lacks: the package, and its dependency by the name in its manifest.
-fn shown_lack(
+/// Formats the message for an edge that a document lacks, with its package and the name of the dependency in the
+/// manifest.
+fn format_missing_edge(
     alloc: Global,
     graph: &DeclaredGraph<'_, '_>,
     lacking: &MissingEdge<'_, '_>,
 ) -> Result<String, AllocError> {
     let package = match graph.linked.described.get(lacking.node) {
-        Some(described) => shown_package(alloc, described)?,
+        Some(described) => format_package(alloc, described)?,
         None => String::new(alloc),
     };
     let declared = lacking.declared;
-    let name = shown(alloc, declared.rename.unwrap_or(declared.name))?;
+    let name = format_text(alloc, declared.rename.unwrap_or(declared.name))?;
     format!(in alloc; "the file is incomplete: {package} has no edge for its dependency {name}")
 }
 
@@ -31,8 +32,8 @@ pub fn filtered_reason(
     let Some(lacking) = first_filtered_out(alloc, graph)? else {
         return Ok(None);
     };
-    let lack = shown_lack(alloc, graph, &lacking)?;
-    let condition = shown(alloc, lacking.declared.condition.unwrap_or(""))?;
+    let lack = format_missing_edge(alloc, graph, &lacking)?;
+    let condition = format_text(alloc, lacking.declared.condition.unwrap_or(""))?;
     Ok(Some(format!(in alloc;
         "{lack} where {condition}: run `{COMMAND}` without `--filter-platform`"
     )?))
@@ -48,7 +49,7 @@ pub fn lacking_reason<'a>(
     let Some(lacking) = first_missing_edge(alloc, graph, resolved, query)? else {
         return Ok(None);
     };
-    let lack = shown_lack(alloc, graph, &lacking)?;
+    let lack = format_missing_edge(alloc, graph, &lacking)?;
     Ok(Some(format!(in alloc;
         "{lack}, which the selected features turn on: run `{COMMAND} --all-features`"
     )?))

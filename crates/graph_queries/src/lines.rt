@@ -2,11 +2,12 @@
 
 use crate::query::GraphQuery;
 use cargo_metadata::{Kind, Package as Described};
-use cargo_platform::{Platform, shown_start};
+use cargo_platform::{Platform, printable_excerpt};
 use known_targets::TargetSet;
 use std::alloc::{AllocError, Global};
 
-/// Appends a part to a text. This call has no clause, so that the prover takes a tenth of the time.
+/// Appends a part to a text. Unlike `push_str`, this function has no contract, so that its callers are proved in a
+/// tenth of the time.
 pub fn push(text: &mut String, part: &str) -> Result<(), AllocError> {
     text.push_str(part)
 }
@@ -19,25 +20,25 @@ pub fn push_comma(text: &mut String, is_first: bool) -> Result<(), AllocError> {
     push(text, ", ")
 }
 
-/// Formats a text of the document for text output. The empty text becomes two quotes.
-pub fn shown(alloc: Global, text: &str) -> Result<String, AllocError> {
+/// Formats a text of the document for text output, as [`printable_excerpt`] does. The empty text becomes two quotes.
+pub fn format_text(alloc: Global, text: &str) -> Result<String, AllocError> {
     if text.is_empty() {
         String::from_str(alloc, "\"\"")
     } else {
-        shown_start(alloc, text)
+        printable_excerpt(alloc, text)
     }
 }
 
 /// Formats the name and the version of a package for text output.
-pub fn shown_package(alloc: Global, described: &Described<'_>) -> Result<String, AllocError> {
-    let name = shown(alloc, described.name)?;
-    let version = shown(alloc, described.version)?;
+pub fn format_package(alloc: Global, described: &Described<'_>) -> Result<String, AllocError> {
+    let name = format_text(alloc, described.name)?;
+    let version = format_text(alloc, described.version)?;
     format!(in alloc; "{name} {version}")
 }
 
 /// Formats targets: `nowhere` if there are none, `all` if these are the selected targets (see `GraphQuery::are_all`),
 /// their names if targets were selected by name, and else their number.
-pub fn shown_targets(
+pub fn format_targets(
     alloc: Global,
     targets: TargetSet,
     query: &GraphQuery<'_>,
@@ -51,11 +52,11 @@ pub fn shown_targets(
     if query.are_named {
         return joined_names(alloc, targets, query);
     }
-    shown_count(alloc, query.count_of(targets))
+    format_target_count(alloc, query.count_of(targets))
 }
 
 /// Formats a number of targets.
-pub fn shown_count(alloc: Global, count: usize) -> Result<String, AllocError> {
+pub fn format_target_count(alloc: Global, count: usize) -> Result<String, AllocError> {
     if count == 1 {
         String::from_str(alloc, "1 target")
     } else {
@@ -73,7 +74,7 @@ pub fn joined_names(
     for name in query.names(alloc, targets)? {
         let is_first = text.is_empty();
         push_comma(&mut text, is_first)?;
-        let name = shown(alloc, name)?;
+        let name = format_text(alloc, name)?;
         push(&mut text, name.as_str())?;
     }
     Ok(text)
@@ -89,7 +90,7 @@ pub fn kind_word(kind: Kind) -> &'static str {
 }
 
 /// Formats the canonical form of a condition for text output.
-pub fn shown_condition(alloc: Global, condition: &Platform) -> Result<String, AllocError> {
+pub fn format_condition(alloc: Global, condition: &Platform) -> Result<String, AllocError> {
     let text = format!(in alloc; "{condition}")?;
-    shown_start(alloc, text.as_str())
+    printable_excerpt(alloc, text.as_str())
 }

@@ -1,5 +1,5 @@
-//! The sides from which a dependency leads. A package that is built for both sides may need it for one of them alone,
-//! or on other targets for each.
+//! The sides from which a dependency leads. A package that is built for both sides may need the dependency for only one
+//! of them, or on different targets for each.
 
 use crate::graph::Graph;
 use crate::query::GraphQuery;
@@ -72,8 +72,8 @@ fn needed_for(
     }
 }
 
-/// Returns the origins of a dependency that is followed on these targets. `place` is its index among those of the
-/// package. Fails if memory is refused.
+/// Returns the sides between which a dependency leads, each with its targets. `followed` has the targets on which the
+/// dependency is followed, and `place` is its index among those of the package. Fails if memory is refused.
 pub fn dependency_sides(
     alloc: Global,
     graph: &Graph<'_>,

@@ -2,7 +2,7 @@
 
 use key_answers::answer::QueryError;
 pub use key_answers::answer::argument_error;
-use key_answers::printing::shown_name;
+use key_answers::printing::format_name;
 use key_answers::targets::{AllTargets, TargetList, names_of};
 use known_targets::{COUNT, KnownTarget, RUSTC_VERSION, TargetSet};
 use package_graphs::{Kinds, Side};
@@ -117,7 +117,7 @@ const ALL_KINDS: Kinds = Kinds {
 
 /// Returns the message for a name that no known target has.
 fn no_target(alloc: Global, name: &str) -> Result<String, AllocError> {
-    let shown = shown_name(alloc, name)?;
+    let shown = format_name(alloc, name)?;
     let hint = if name.ends_with(".json") {
         "; `graph` takes the name of a custom target, and --target-spec its facts"
     } else {
@@ -154,7 +154,7 @@ fn targets_of(alloc: Global, arguments: &GraphArguments<'_>) -> Result<TargetSet
 
 /// Returns the message for a word that names no dependency kind.
 fn no_kind(alloc: Global, word: &str) -> Result<String, AllocError> {
-    let shown = shown_name(alloc, word)?;
+    let shown = format_name(alloc, word)?;
     format!(in alloc; "--edges names normal, build and dev, joined by commas, and not {shown}")
 }
 
@@ -311,7 +311,7 @@ impl<'a> GraphQuery<'a> {
         })
     }
 
-    /// Returns the same query for the targets of a file.
+    /// Returns the same query for the targets of a file, which these groups represent.
     pub fn in_groups(self, groups: &'a Groups<'a>) -> GraphQuery<'a> {
         let mut query = self;
         query.targets = groups.targets();
@@ -339,7 +339,8 @@ impl<'a> GraphQuery<'a> {
         }
     }
 
-    /// Returns whether text says `all` of some targets: of the selected ones, unless only one is selected, by its name.
+    /// Returns whether text output prints these targets as `all`. It does if they are the selected targets, unless only
+    /// one target is selected, by its name.
     pub fn are_all(&self, targets: TargetSet) -> bool {
         targets.equals(self.targets) && !(self.are_named && self.count == 1)
     }

@@ -9,10 +9,10 @@ use crate::unsupported::unsupported_reason;
 use cargo_metadata::fields::text_at;
 use cargo_metadata::graphs::{Linked, link};
 use cargo_metadata::{Metadata, read};
-use cargo_platform::shown_text;
+use cargo_platform::printable_text;
 use declared_features::{Declarations, DeclarationsError, DeclaredGraph};
 use key_answers::answer::{QueryError, file_error};
-use key_answers::printing::shown_name;
+use key_answers::printing::format_name;
 use serde_json::{Error, Value};
 use std::alloc::{AllocError, Global};
 
@@ -50,7 +50,7 @@ impl Rejected {
 /// Returns the message for a text that is not JSON.
 fn no_json(alloc: Global, error: &Error) -> Result<String, AllocError> {
     let reason = format!(in alloc; "{error}")?;
-    let reason = shown_text(alloc, reason.as_str())?;
+    let reason = printable_text(alloc, reason.as_str())?;
     format!(in alloc; "no JSON: {reason}")
 }
 
@@ -62,9 +62,9 @@ pub fn document_of(alloc: Global, text: &str) -> Result<Value, Rejected> {
     }
 }
 
-/// A document that was read and linked.
+/// The output of `cargo metadata`, parsed as JSON, with the metadata that was read from it and the linked graph.
 #[derive(Drop)]
-pub struct Input<'a> {
+pub struct GraphDocument<'a> {
     pub document: &'a Value,
     pub metadata: Metadata<'a>,
     pub linked: Linked<'a>,
@@ -122,7 +122,7 @@ fn metadata_of<'a>(alloc: Global, document: &'a Value) -> Result<Metadata<'a>, R
 
 /// Returns the message for a name that no member of the workspace has.
 fn no_member(alloc: Global, name: &str) -> Result<String, AllocError> {
-    let name = shown_name(alloc, name)?;
+    let name = format_name(alloc, name)?;
     format!(in alloc; "no member of the workspace is named {name}")
 }
 
@@ -145,7 +145,7 @@ fn linked_from<'a>(
     }
 }
 
-impl<'a> Input<'a> {
+impl<'a> GraphDocument<'a> {
     /// Reads a document that was parsed as JSON, and links it from the members with these names, or from all if there
     /// are no names.
     ///
@@ -154,14 +154,18 @@ impl<'a> Input<'a> {
     /// Rejects a document that is not the output of `cargo metadata`, has a condition that is nested too deep, or has
     /// an artifact dependency; one whose ids and conditions form no graph; one that `--filter-platform` made; and a
     /// name that no member has. Fails if memory is refused.
-    pub fn of(alloc: Global, document: &'a Value, roots: &[&str]) -> Result<Input<'a>, Rejected> {
+    pub fn of(
+        alloc: Global,
+        document: &'a Value,
+        roots: &[&str],
+    ) -> Result<GraphDocument<'a>, Rejected> {
         let metadata = metadata_of(alloc, document)?;
         let linked = linked_from(alloc, &metadata, roots)?;
         let declared = Declarations::of(alloc, document, &metadata);
         if let Err(DeclarationsError::Memory(_)) = &declared {
             return Err(Rejected::from(AllocError));
         }
-        let input = Input {
+        let input = GraphDocument {
             document,
             metadata,
             linked,
@@ -208,11 +212,11 @@ impl<'a> Input<'a> {
 /// Rejects what [`resolution_of`] rejects, if features are requested. Fails if memory is refused.
 pub fn graph_of<'a>(
     alloc: Global,
-    input: Input<'a>,
+    input: GraphDocument<'a>,
     query: &GraphQuery<'_>,
 ) -> Result<Graph<'a>, Rejected> {
     let resolution = resolution_of(alloc, &input, query)?;
-    let Input {
+    let GraphDocument {
         document,
         metadata,
         linked,
@@ -233,12 +237,12 @@ pub fn graph_of<'a>(
 ///
 /// # Errors
 ///
-/// As of [`Input::of`] and [`graph_of`].
+/// As of [`GraphDocument::of`] and [`graph_of`].
 pub fn graph_in<'a>(
     alloc: Global,
     document: &'a Value,
     query: &GraphQuery<'_>,
 ) -> Result<Graph<'a>, Rejected> {
-    let input = Input::of(alloc, document, query.packages)?;
+    let input = GraphDocument::of(alloc, document, query.packages)?;
     graph_of(alloc, input, query)
 }

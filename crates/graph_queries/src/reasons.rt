@@ -160,8 +160,8 @@ impl Reasons {
         Ok(Some(Reasons { reasons }))
     }
 
-    /// Returns the reasons why a package is left out, each with the selected targets on which it is. Fails if memory is
-    /// refused.
+    /// Returns the reasons why a package is left out, each with the selected targets on which it is left out for that
+    /// reason. Fails if memory is refused.
     pub fn at(
         &self,
         alloc: Global,

@@ -4,7 +4,7 @@ ghost use Rattle.std.specs.Prelude.{◌≡◌, false, OnOk};
 ghost use Rattle.cargo_metadata.specs.Documents.{is_memory};
 ghost use Rattle.cargo_metadata.specs.Refusals.{is_memory as is_memory_of_graph};
 
-use crate::lines::{push, shown};
+use crate::lines::{format_text, push};
 use cargo_metadata::graphs::{EdgeError, GraphError};
 use cargo_metadata::{ExpectedValue, Metadata, MetadataError, ResolveError};
 use cargo_platform::ParseError;
@@ -21,7 +21,7 @@ pub(crate) const COMMAND: &str = "cargo metadata --format-version 1";
 fn about(alloc: Global, reason: String, subject: Option<&str>) -> Result<String, AllocError> {
     match subject {
         Some(subject) => {
-            let subject = shown(alloc, subject)?;
+            let subject = format_text(alloc, subject)?;
             format!(in alloc; "{reason} (package {subject})")
         }
         None => Ok(reason),

@@ -1,10 +1,10 @@
 //! The features that are requested, and the packages that have them. With resolver 1, Cargo gives them to the package
 //! of the current directory alone.
 
-use crate::lines::{shown, shown_package};
+use crate::lines::{format_package, format_text};
 use crate::reading::Rejected;
-use declared_features::{DeclaredGraph, Manifest, RequestedFeatures};
-use key_answers::printing::shown_name;
+use declared_features::{DeclaredGraph, PackageDeclaration, RequestedFeatures};
+use key_answers::printing::format_name;
 use std::alloc::{AllocError, Global};
 
 /// Splits the requested features at commas and spaces.
@@ -78,7 +78,7 @@ pub fn split_by_root<'a>(
 
 /// Returns whether a package has a feature of this name: one of its own, with or without `PACKAGE/` before it, or one
 /// with the name of a dependency before it.
-fn has_feature(package: Option<&str>, manifest: &Manifest<'_>, name: &str) -> bool {
+fn has_feature(package: Option<&str>, manifest: &PackageDeclaration<'_>, name: &str) -> bool {
     let own = match name.split_once('/') {
         Some((first, feature)) if package == Some(first) => feature,
         Some((first, _)) => {
@@ -130,8 +130,8 @@ fn named_has(graph: &DeclaredGraph<'_, '_>, name: &str, feature: &str) -> bool {
     false
 }
 
-/// Returns the package of the current directory as it is shown.
-fn shown_current(
+/// Formats the package of the current directory for text output.
+fn format_current(
     alloc: Global,
     graph: &DeclaredGraph<'_, '_>,
     node: usize,
@@ -139,15 +139,15 @@ fn shown_current(
     let Some(described) = graph.linked.described.get(node) else {
         return Ok(String::new(alloc));
     };
-    let package = shown_package(alloc, described)?;
+    let package = format_package(alloc, described)?;
     format!(in alloc;
         "{package}, the package of the current directory, to which resolver 1 gives the features,"
     )
 }
 
-/// Returns the reason why a feature is rejected that its package has not.
+/// Returns the reason why a feature is rejected that its package does not have.
 fn no_feature(alloc: Global, package: &str, feature: &str) -> Result<String, AllocError> {
-    let feature = shown(alloc, feature)?;
+    let feature = format_text(alloc, feature)?;
     format!(in alloc; "{package} has no feature {feature}")
 }
 
@@ -161,11 +161,11 @@ fn unknown_reason(
 ) -> Result<Option<String>, AllocError> {
     match current {
         Some(node) if !has(graph, node, None, feature) => {
-            let package = shown_current(alloc, graph, node)?;
+            let package = format_current(alloc, graph, node)?;
             Ok(Some(no_feature(alloc, package.as_str(), feature)?))
         }
         None if !some_root_has(graph, feature) => {
-            let feature = shown_name(alloc, feature)?;
+            let feature = format_name(alloc, feature)?;
             Ok(Some(format!(in alloc; "no root has the feature {feature}")?))
         }
         _ => Ok(None),
@@ -180,7 +180,7 @@ pub fn reject_unknown(
 ) -> Result<(), Rejected> {
     for (root, feature) in features.of_others {
         if !named_has(graph, root, feature) {
-            let root = shown(alloc, root)?;
+            let root = format_text(alloc, root)?;
             return Err(Rejected::Document(no_feature(alloc, root.as_str(), feature)?));
         }
     }

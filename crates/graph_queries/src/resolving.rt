@@ -3,13 +3,13 @@
 use crate::incomplete::lacking_reason;
 use crate::origins::using_from;
 use crate::query::{GraphQuery, Show};
-use crate::reading::{Input, Rejected};
+use crate::reading::{GraphDocument, Rejected};
 use crate::requested::{current_node, names_of, reject_unknown, split_by_root};
 use cargo_features::{BuildOptions, Claim, Resolved, resolve};
 use cargo_metadata::fields::text_at;
 use declared_features::{Declarations, RequestedFeatures, ResolverInput, resolver_input};
 use key_answers::answer::{QueryError, argument_error};
-use key_answers::printing::shown_name;
+use key_answers::printing::format_name;
 use known_targets::{KnownTarget, TargetSet};
 use package_graphs::{Kinds, Side};
 use serde_json::Value;
@@ -131,7 +131,7 @@ fn resolver_by_edition(alloc: Global, root: Option<&Value>) -> Result<Resolver, 
         Some("2015" | "2018") => Ok(Resolver::One),
         Some("2021" | "2024") => Ok(Resolver::Two),
         Some(edition) => {
-            let edition = shown_name(alloc, edition)?;
+            let edition = format_name(alloc, edition)?;
             Err(Rejected::Document(format!(in alloc;
                 "no resolver is known of edition {edition}: say --resolver 1, 2 or 3"
             )?))
@@ -182,7 +182,7 @@ fn host_of(alloc: Global, query: &GraphQuery<'_>) -> Result<KnownTarget, QueryEr
 /// Resolves the requested features of a graph.
 fn resolved_of<'a>(
     alloc: Global,
-    input: &Input<'a>,
+    input: &GraphDocument<'a>,
     features: &RequestedFeatures<'a>,
     build: BuildOptions,
 ) -> Result<Resolution, Rejected> {
@@ -205,7 +205,7 @@ fn resolved_of<'a>(
 /// refused.
 pub fn resolution_of<'a>(
     alloc: Global,
-    input: &Input<'a>,
+    input: &GraphDocument<'a>,
     query: &GraphQuery<'_>,
 ) -> Result<Option<Resolution>, Rejected> {
     if !is_requested(query) {

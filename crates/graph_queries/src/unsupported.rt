@@ -1,6 +1,6 @@
 //! The reasons why documents are rejected that have what no answer takes into account.
 
-use crate::lines::shown;
+use crate::lines::format_text;
 use cargo_metadata::fields::{list_at, text_at};
 use serde_json::Value;
 use std::alloc::{AllocError, Global};
@@ -22,8 +22,8 @@ fn is_of_artifact(kind: &Value) -> bool {
 }
 
 /// Formats the text at a field. One that is missing is empty.
-fn shown_at(alloc: Global, value: &Value, field: &str) -> Result<String, AllocError> {
-    shown(alloc, text_at(value, field).unwrap_or(""))
+fn format_field(alloc: Global, value: &Value, field: &str) -> Result<String, AllocError> {
+    format_text(alloc, text_at(value, field).unwrap_or(""))
 }
 
 /// Returns why a document is rejected, if a licence is no text.
@@ -31,7 +31,7 @@ fn licence_reason(alloc: Global, document: &Value) -> Result<Option<String>, All
     let packages = list_at(document, "packages").unwrap_or(&[]);
     for i in 0..packages.len() {
         if has_strange_licence(&packages[i]) {
-            let name = shown_at(alloc, &packages[i], "name")?;
+            let name = format_field(alloc, &packages[i], "name")?;
             return Ok(Some(format!(in alloc;
                 "packages[{i}].license: expected a string or null (package {name})"
             )?));
@@ -60,8 +60,8 @@ fn artifact_reason(alloc: Global, document: &Value) -> Result<Option<String>, Al
     let nodes = list_at(resolve, "nodes").unwrap_or(&[]);
     for i in 0..nodes.len() {
         if let Some((j, dependency)) = first_artifact(&nodes[i]) {
-            let of = shown_at(alloc, &nodes[i], "id")?;
-            let on = shown_at(alloc, dependency, "pkg")?;
+            let of = format_field(alloc, &nodes[i], "id")?;
+            let on = format_field(alloc, dependency, "pkg")?;
             return Ok(Some(format!(in alloc;
                 "resolve.nodes[{i}].deps[{j}]: artifact dependencies are not supported: {of} has one on {on}"
             )?));

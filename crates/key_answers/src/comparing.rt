@@ -3,7 +3,7 @@
 use crate::answer::{Answer, QueryError, Status};
 use crate::comparison::json_line;
 use crate::conditions::read_key;
-use crate::printing::shown_example;
+use crate::printing::format_example;
 use crate::work::{Keys, split_budget};
 use cargo_platform::{CfgExpr, Platform};
 use exact_answers::{
@@ -135,7 +135,7 @@ fn told(alloc: Global, answer: &MustSelect) -> Result<String, AllocError> {
         MustSelect::Yes => String::from_str(alloc, "yes"),
         MustSelect::Undecided => String::from_str(alloc, "undecided"),
         MustSelect::No(example) => {
-            let example = shown_example(alloc, example)?;
+            let example = format_example(alloc, example)?;
             format!(in alloc; "no, {example}")
         }
     }

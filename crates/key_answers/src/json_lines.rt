@@ -5,7 +5,7 @@ ghost use Rattle.std.specs.List.{list_all};
 ghost use Rattle.key_answers.specs.JsonLines.{is_printable, IsShownText, AppendsShown, AppendsLine};
 
 use crate::line_writer::LineWriter;
-use cargo_platform::shown_text;
+use cargo_platform::printable_text;
 use serde::Serialize;
 use std::alloc::{AllocError, Global};
 
@@ -40,18 +40,17 @@ fn escaped(alloc: Global, json: &str, shown: &str) -> Result<String, AllocError>
     Ok(text)
 }
 
-/// Returns printed JSON with an escape for each character that [`shown_text`] hides. It is what `shown_text` returns,
-/// so
-/// that nothing of it is hidden.
+/// Returns printed JSON with an escape for each character that [`printable_text`] replaces. `printable_text` does not
+/// change the result, so nothing in it is hidden.
 fn with_escapes(alloc: Global, json: &str) -> Result<String, AllocError>
     ensures { IfOk result (λ s. IsShownText (string_bytes s)) }
 {
-    let shown = shown_text(alloc, json)?;
+    let shown = printable_text(alloc, json)?;
     if shown.as_str() == json {
         return Ok(shown);
     }
     let escaped = escaped(alloc, json, shown.as_str())?;
-    shown_text(alloc, escaped.as_str())
+    printable_text(alloc, escaped.as_str())
 }
 
 /// Returns whether a byte is a printable ASCII character.
@@ -76,7 +75,7 @@ fn push_printable(text: &mut String, json: &str) -> Result<(), AllocError>
     text.push_str(json)
 }
 
-/// Appends what [`shown_text`] returned.
+/// Appends what [`printable_text`] returned.
 fn push_shown_text(text: &mut String, shown: &str) -> Result<(), AllocError>
     requires { IsShownText shown.now }
     ensures { OnOk result (AppendsShown (string_bytes text.old) (string_bytes text.new)) }

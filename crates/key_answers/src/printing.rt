@@ -7,7 +7,7 @@ ghost use Rattle.cargo_platform.specs.Trees.{value_of};
 ghost use Rattle.key_answers.specs.Printing.{fact_line, deep_key, is_unclosed, is_unopened, error_text, unopened_text};
 ghost use Rattle.key_answers.specs.Printing.{IsKeyReason};
 
-use cargo_platform::{Cfg, ParseError, shown_start};
+use cargo_platform::{Cfg, ParseError, printable_excerpt};
 use exact_answers::PossibleTarget;
 use input_limits::deep_text;
 use std::alloc::{AllocError, Global};
@@ -42,14 +42,14 @@ pub fn fact_lines(alloc: Global, facts: &[Cfg]) -> Result<String, AllocError>
     Ok(text)
 }
 
-/// Returns the displayed form of a fact, as `Cfg` prints it.
-pub(crate) fn shown_fact(alloc: Global, fact: &Cfg) -> Result<String, AllocError> {
+/// Formats a fact as `Cfg` prints it, cut and without hidden characters (see [`printable_excerpt`]).
+pub(crate) fn format_fact(alloc: Global, fact: &Cfg) -> Result<String, AllocError> {
     let text = format!(in alloc; "{fact}")?;
-    shown_start(alloc, text.as_str())
+    printable_excerpt(alloc, text.as_str())
 }
 
-/// Returns the displayed forms of facts, joined by commas.
-pub(crate) fn shown_facts(alloc: Global, facts: &[Cfg]) -> Result<String, AllocError> {
+/// Formats facts, joined by commas.
+pub(crate) fn format_facts(alloc: Global, facts: &[Cfg]) -> Result<String, AllocError> {
     if facts.is_empty() {
         return String::from_str(alloc, "no facts");
     }
@@ -58,27 +58,30 @@ pub(crate) fn shown_facts(alloc: Global, facts: &[Cfg]) -> Result<String, AllocE
         if !text.is_empty() {
             text.push_str(", ")?;
         }
-        let shown = shown_fact(alloc, fact)?;
+        let shown = format_fact(alloc, fact)?;
         text.push_str(shown.as_str())?;
     }
     Ok(text)
 }
 
-/// Returns the displayed form of a name. That of the empty name is two quotes.
-pub fn shown_name(alloc: Global, name: &str) -> Result<String, AllocError> {
+/// Formats a name for messages, as [`printable_excerpt`] does. The empty name becomes two quotes.
+pub fn format_name(alloc: Global, name: &str) -> Result<String, AllocError> {
     if name.is_empty() {
         String::from_str(alloc, "\"\"")
     } else {
-        shown_start(alloc, name)
+        printable_excerpt(alloc, name)
     }
 }
 
 /// Returns the target of an example: `over FACTS`, after `at NAME` if the name matters.
-pub(crate) fn shown_example(alloc: Global, example: &PossibleTarget) -> Result<String, AllocError> {
-    let facts = shown_facts(alloc, &example.facts)?;
+pub(crate) fn format_example(
+    alloc: Global,
+    example: &PossibleTarget,
+) -> Result<String, AllocError> {
+    let facts = format_facts(alloc, &example.facts)?;
     match &example.name {
         Some(name) => {
-            let name = shown_name(alloc, name.as_str())?;
+            let name = format_name(alloc, name.as_str())?;
             format!(in alloc; "at {name} over {facts}")
         }
         None => format!(in alloc; "over {facts}"),
@@ -106,7 +109,7 @@ fn push_fault(
         Some(snippet) => push_indented(text, snippet.as_str()),
         None => {
             let whole = format!(in alloc; "{error}")?;
-            let shown = shown_start(alloc, whole.as_str())?;
+            let shown = printable_excerpt(alloc, whole.as_str())?;
             push_indented(text, shown.as_str())
         }
     }
@@ -139,7 +142,7 @@ fn error_text(alloc: Global, error: &ParseError) -> Result<String, AllocError>
 {
     let kind = error.kind();
     let text = format!(in alloc; "{kind}")?;
-    shown_start(alloc, text.as_str())
+    printable_excerpt(alloc, text.as_str())
 }
 
 /// Returns why a key is rejected that contains `(` and does not begin with `cfg(`. The text names the character at this
@@ -148,7 +151,7 @@ fn unopened_text(alloc: Global, key: &str, span: Range<usize>) -> Result<String,
     ensures { IfOk result (λ s. IsSpanIn key.now span → string_bytes s ≡ unopened_text key.now span) }
 {
     let refused = key.get(span.start..span.end).unwrap_or("");
-    let shown = shown_start(alloc, refused)?;
+    let shown = printable_excerpt(alloc, refused)?;
     format!(in alloc;
         "invalid target specifier: unexpected `{shown}` character, cfg expressions must start with `cfg(`"
     )

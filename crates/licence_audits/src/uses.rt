@@ -95,7 +95,8 @@ fn needs_exception(
     }
 }
 
-/// Returns whether no package that is to be audited has a licence that some entry allows.
+/// Returns whether entries of a list are unused: no package that is to be audited has a licence that one of them
+/// allows.
 ///
 /// # Errors
 ///
@@ -116,8 +117,9 @@ pub fn is_unused_entry(
     Ok(true)
 }
 
-/// Returns whether no package that is to be audited needs an exception. One without a list is needed by each package
-/// that it is for, and one with a list by each of these packages that has a licence which the list allows.
+/// Returns whether an exception is unused: no package that is to be audited needs it. An exception without a list is
+/// needed by each package that it is for. One with a list is needed by each of these packages that has a licence which
+/// the list allows.
 ///
 /// # Errors
 ///

@@ -1,6 +1,6 @@
 //! Messages about identifiers of licences that are not in SPDX's licence list, or are deprecated there.
 
-use cargo_platform::shown_start;
+use cargo_platform::printable_excerpt;
 use known_licences::{
     LIST_VERSION, exception, is_deprecated, licence, nearest_exception, nearest_licence,
 };
@@ -30,7 +30,7 @@ fn unlisted_message(
     id: &str,
     meant: Option<&'static str>,
 ) -> Result<String, AllocError> {
-    let shown = shown_start(alloc, id)?;
+    let shown = printable_excerpt(alloc, id)?;
     let help = match meant {
         Some(name) => format!(in alloc; "; did you mean `{name}`?")?,
         None => String::new(alloc),
@@ -71,7 +71,7 @@ pub fn deprecated_message(alloc: Global, of: &Licence) -> Result<Option<String>,
         Some(name) => format!(in alloc; "; use `{name}`")?,
         None => String::new(alloc),
     };
-    let shown = shown_start(alloc, id)?;
+    let shown = printable_excerpt(alloc, id)?;
     let message = format!(in alloc;
         "`{shown}` is deprecated in SPDX's licence list {LIST_VERSION}{help}"
     )?;

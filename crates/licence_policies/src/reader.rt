@@ -2,7 +2,7 @@
 
 use crate::keys::{TableKind, Treatment};
 use crate::policy::UnusedLevel;
-use cargo_platform::shown_start;
+use cargo_platform::printable_excerpt;
 use diagnostics::{Diagnostic, DiagnosticLevel, diagnostic_of_failure};
 use manifest_lints_findings::near;
 use manifests::key_locations::{Location, SourceMap, key_path};
@@ -27,7 +27,7 @@ fn unknown_key(alloc: Global, kind: TableKind, key: &str) -> Result<String, Allo
     for (name, _) in kind.keys() {
         names.push(*name)?;
     }
-    let shown = shown_start(alloc, key)?;
+    let shown = printable_excerpt(alloc, key)?;
     match near(key, &names) {
         Some(meant) => format!(in alloc; "unknown key `{shown}`; did you mean `{meant}`?"),
         None => format!(in alloc; "unknown key `{shown}`"),

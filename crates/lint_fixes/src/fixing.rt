@@ -10,7 +10,7 @@ ghost use Rattle.lint_fixes.specs.declared.fixing.Outcome.TheVariants.{Unchanged
 
 use crate::replacing::{CHANGED, FileChange, text_read, write_change};
 use crate::sameness::{Renames, has_key, is_same_manifest};
-use cargo_platform::shown_text;
+use cargo_platform::printable_text;
 use diagnostics::{Diagnostic, Replacement, list_entry_removals, replacement_of};
 use input_limits::strip_byte_order_mark;
 use key_answers::answer::{Answer, Status};
@@ -366,14 +366,14 @@ fn fixed_text(
 
 /// Formats the line that names a fixed file, as Cargo does.
 fn fixed_line(alloc: Global, path: &str, count: usize) -> Result<String, AllocError> {
-    let path = shown_text(alloc, path)?;
+    let path = printable_text(alloc, path)?;
     let end = if count == 1 { "" } else { "es" };
     format!(in alloc; "       Fixed {path} ({count} fix{end})\n")
 }
 
 /// Returns the answer that a file is not fixed, for this reason.
 fn not_fixed(alloc: Global, path: &str, reason: &str) -> Result<Answer, AllocError> {
-    let path = shown_text(alloc, path)?;
+    let path = printable_text(alloc, path)?;
     let line = format!(in alloc; "{path}: error: nothing is fixed: {reason}\n")?;
     Ok(Answer::unusable(alloc, line))
 }
@@ -422,7 +422,7 @@ fn fix_text<R: Files + AllocGlobal>(
         Outcome::Fixed(fixed) => fixed,
     };
     let answer = if fixing.is_dry {
-        diff_of(alloc, shown_text(alloc, path)?.as_str(), before, &fixed)?
+        diff_of(alloc, printable_text(alloc, path)?.as_str(), before, &fixed)?
     } else {
         let after = fixed.text.as_str();
         let limit = documents.limit;

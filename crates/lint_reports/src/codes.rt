@@ -1,6 +1,6 @@
 //! The explanations of the lints, for people.
 
-use cargo_platform::shown_start;
+use cargo_platform::printable_excerpt;
 use diagnostics::{DiagnosticLevel, default_level};
 use manifest_lints_findings::{KEY_LINTS, KeyLint, LINTS_NOT_ON_KEYS, Lint, near};
 use std::alloc::{AllocError, Global};
@@ -254,7 +254,7 @@ pub struct UnknownLint {
 impl UnknownLint {
     /// Returns that no lint has a name. `meant` is the name that may be meant, if there is one.
     fn of(alloc: Global, name: &str, meant: Option<&str>) -> Result<UnknownLint, AllocError> {
-        let shown = shown_start(alloc, name)?;
+        let shown = printable_excerpt(alloc, name)?;
         Ok(UnknownLint {
             message: format!(in alloc; "unknown lint: `{shown}`")?,
             help: match meant {

@@ -1,6 +1,6 @@
 //! Fields under the keys of `target` that Cargo does not read in its own configuration.
 
-use cargo_platform::shown_start;
+use cargo_platform::printable_excerpt;
 use manifest_lints_findings::{
     Children, Level, Lint, Site, TableDiagnostic, add_top_level_diagnostics, near,
 };
@@ -88,7 +88,7 @@ fn unread_at(
     } else {
         Level::Error
     };
-    let name = shown_start(alloc, name)?;
+    let name = printable_excerpt(alloc, name)?;
     let reason = reason_of(alloc, name.as_str(), is_condition, is_table)?;
     let help = format!(in alloc; "did you mean `{meant}`?")?;
     Ok(Some(Unread {

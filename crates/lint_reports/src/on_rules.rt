@@ -2,7 +2,7 @@
 
 use crate::codes::{UnknownLint, unknown_subject};
 use crate::settings::{SettingsError, SettingsErrorAt, TOOL, UNDERSCORED_TOOL, WORDS, is_fact};
-use cargo_platform::{inside_cfg, shown_start};
+use cargo_platform::{inside_cfg, printable_excerpt};
 use diagnostics::{Diagnostic, Rule, default_level};
 use manifest_lints_findings::{Children, Lint, near};
 use manifests::key_locations::{Location, SourceMap, key_path};
@@ -48,11 +48,11 @@ impl Wrong {
 
 /// Returns what is wrong with an entry of `known-facts` that is no fact.
 fn no_fact(alloc: Global, text: &str) -> Result<Wrong, AllocError> {
-    let shown = shown_start(alloc, text)?;
+    let shown = printable_excerpt(alloc, text)?;
     let message = format!(in alloc; "`{shown}` is not a fact")?;
     match inside_cfg(text) {
         Some(inside) if is_fact(alloc, inside)? => {
-            let inside = shown_start(alloc, inside)?;
+            let inside = printable_excerpt(alloc, inside)?;
             Wrong::or_meant(alloc, message, inside.as_str())
         }
         _ => Wrong::noted(
@@ -65,7 +65,7 @@ fn no_fact(alloc: Global, text: &str) -> Result<Wrong, AllocError> {
 
 /// Returns what is wrong with a word that sets nothing.
 fn unknown_word(alloc: Global, word: &str) -> Result<Wrong, AllocError> {
-    let shown = shown_start(alloc, word)?;
+    let shown = printable_excerpt(alloc, word)?;
     let message = format!(in alloc; "unknown setting: `{shown}`")?;
     match near(word, &WORDS) {
         Some(meant) => Wrong::or_meant(alloc, message, meant),
@@ -114,7 +114,7 @@ fn wrong_of(alloc: Global, fault: &SettingsError) -> Result<Wrong, AllocError> {
         SettingsError::NoTargetEntry => no_target_message(alloc)?,
         SettingsError::NoFactsOf(reason) => reason.clone()?,
         SettingsError::NoTarget(text) => {
-            let text = shown_start(alloc, text.as_str())?;
+            let text = printable_excerpt(alloc, text.as_str())?;
             format!(in alloc; "`{text}` is not the name of a target")?
         }
         SettingsError::Underscored => {
@@ -130,7 +130,7 @@ fn unneeded_message(alloc: Global, rule: &Rule) -> Result<String, AllocError> {
     let subject = rule.subject.word();
     match &rule.key {
         Some(key) => {
-            let key = shown_start(alloc, key.as_str())?;
+            let key = printable_excerpt(alloc, key.as_str())?;
             format!(in alloc;
                 "`{subject}` would not be reported on the key `{key}` without this entry either"
             )

@@ -1,9 +1,9 @@
 //! Finds what Cargo rejects in the tables of dependencies of a manifest, and in the fields that it inherits.
 
 use crate::dependency_rules::{CheckedDependency, WorkspaceRoot, rejected_dependency};
-use cargo_platform::shown_start;
+use cargo_platform::printable_excerpt;
 use input_limits::strip_byte_order_mark;
-use manifest_lints_findings::{Level, shown_table, table_diagnostics};
+use manifest_lints_findings::{Level, format_table_name, table_diagnostics};
 use manifests::dotted_keys::find_dotted_key;
 use manifests::key_locations::Location;
 use manifests::{Kind, table_of};
@@ -15,15 +15,15 @@ use workspaces::{Document, is_of_2024};
 /// The kinds of tables of dependencies.
 const KINDS: [Kind; 3] = [Kind::Normal, Kind::Development, Kind::Build];
 
-/// The first thing that Cargo rejects in a manifest, beside its keys of `target`.
+/// The first table, dependency or field of a manifest that Cargo rejects. Invalid keys of `target` are not included.
 #[derive(Drop)]
 pub struct Rejected {
     /// The place of the table, dependency or field, if it is known.
     pub at: Option<Location>,
     /// The table, dependency or field, and why it is rejected.
     pub reason: String,
-    /// True if a lint reports it: a table or package whose name Cargo does not take where it is, or what is no table
-    /// below a key of `target`.
+    /// True if a lint reports this error too: Cargo does not accept the name of a table or package at its place, or a
+    /// value below a key of `target` is not a table.
     pub is_lint: bool,
 }
 
@@ -36,7 +36,7 @@ impl Rejected {
         }
     }
 
-    /// Returns the line about a manifest with this path for people. Fails if an allocation fails.
+    /// Formats the error of a manifest with this path as a line for people. Fails if an allocation fails.
     pub fn text(&self, alloc: Global, path: &str) -> Result<String, AllocError> {
         let reason = self.reason.as_str();
         match self.line() {
@@ -94,7 +94,7 @@ fn on_dependency(
     name: &str,
     reason: &str,
 ) -> Result<String, AllocError> {
-    let name = shown_start(alloc, name)?;
+    let name = printable_excerpt(alloc, name)?;
     format!(in alloc; "{table}.{name}: {reason}")
 }
 
@@ -137,7 +137,7 @@ fn at_dependency(
     kind: Kind,
     reason: &str,
 ) -> Result<At, AllocError> {
-    let table = shown_table(alloc, place.key, kind.table_name())?;
+    let table = format_table_name(alloc, place.key, kind.table_name())?;
     let reason = on_dependency(alloc, table.as_str(), name, reason)?;
     let mut path = path_of(alloc, place.table, kind, place.key)?;
     path.push(String::from_str(alloc, name)?)?;
@@ -155,7 +155,7 @@ fn rejected_of_kind(
         return Ok(None);
     };
     let Some(members) = value.as_table() else {
-        let name = shown_table(alloc, place.key, kind.table_name())?;
+        let name = format_table_name(alloc, place.key, kind.table_name())?;
         let path = path_of(alloc, place.table, kind, place.key)?;
         let reason = format!(in alloc; "{name} is not a table")?;
         return Ok(Some(At {

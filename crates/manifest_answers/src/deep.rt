@@ -8,7 +8,7 @@ ghost use Rattle.manifests.specs.Entries.{entry_of};
 ghost use Rattle.manifests.specs.Tables.{target_of};
 ghost use Rattle.manifest_answers.specs.Deep.{HasNoDeepKey, IsShallowEntry};
 
-use cargo_platform::shown_start;
+use cargo_platform::printable_excerpt;
 use input_limits::{deep_at, deep_text};
 use manifests::reading::Manifest;
 use manifests::{TargetKey, Targets, target_keys};
@@ -66,7 +66,7 @@ fn deep_key(
         }
         None => String::from_str(alloc, path)?,
     };
-    let shown = shown_start(alloc, key)?;
+    let shown = printable_excerpt(alloc, key)?;
     let reason = deep_text(alloc, at)?;
     let message = format!(in alloc; "the key is {reason}")?;
     Ok(DeepKey {

@@ -1,6 +1,6 @@
 //! Decides whether Cargo rejects a dependency in a manifest, by Cargo's reference ("Specifying Dependencies").
 
-use cargo_platform::shown_text;
+use cargo_platform::printable_text;
 use manifests::Kind;
 use semver::VersionReq;
 use std::alloc::{AllocError, Global};
@@ -72,7 +72,7 @@ fn fixed(alloc: Global, text: &str) -> Result<Option<String>, AllocError> {
 /// Returns the message on an invalid version requirement.
 fn bad_version_text(alloc: Global, error: semver::Error) -> Result<String, AllocError> {
     let error = format!(in alloc; "{error}")?;
-    let error = shown_text(alloc, error.as_str())?;
+    let error = printable_text(alloc, error.as_str())?;
     format!(in alloc; "the version requirement is invalid: {error}")
 }
 

@@ -40,8 +40,8 @@ pub trait ManifestQuery {
     ) -> Result<Answer, AllocError>;
 }
 
-/// Returns the answers on these manifests, in their order. Those in the documents are not read again. A manifest that
-/// can't be used, for example since it has more bytes than the limit, does not stop the others.
+/// Returns the answers on these manifests, in their order. Manifests in the cache are not read again. A manifest that
+/// can't be used, for example because it is larger than the limit, does not stop the others.
 pub fn answer_each<R: Files + Input + Env + AllocGlobal, Q: ManifestQuery>(
     rt: &R,
     documents: &mut ManifestCache,

@@ -16,7 +16,7 @@ pub struct ErrorReporter<'a> {
     pub json: bool,
 }
 
-/// Why a manifest, or what a command line says beside manifests, can't be used.
+/// The reason why a manifest, or another argument of a command line, can't be used.
 #[derive(Clone, Copy, Drop)]
 pub struct Fault<'a, 'm> {
     /// The path of the manifest as it is printed, or `None` if the error is not about a manifest.
@@ -103,7 +103,7 @@ impl<'a> ErrorReporter<'a> {
         Ok(Answer::of(alloc, self.json_line(alloc, fault)?, Status::Unusable))
     }
 
-    /// Returns the answer that reports what these lines say about the arguments of a command line.
+    /// Returns the answer that reports an error of the command line's arguments, with these lines as its message.
     pub fn report_arguments(&self, alloc: Global, lines: &str) -> Result<Answer, AllocError> {
         let message = lines.strip_prefix("error: ").unwrap_or(lines);
         let message = message.strip_suffix("\n").unwrap_or(message);

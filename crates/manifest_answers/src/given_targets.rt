@@ -5,7 +5,7 @@ use cargo_platform::{Cfg, CfgExpr, Platform};
 use exact_answers::{CanSelect, FactConstraints, MustSelect, always_platform, can_hold_platform};
 use input_limits::strip_byte_order_mark;
 use key_answers::answer::QueryError;
-use key_answers::printing::{invalid_fact_message, shown_name};
+use key_answers::printing::{format_name, invalid_fact_message};
 use known_targets::{COUNT, KnownTarget, RUSTC_VERSION, TargetSet, targets_with_fact};
 use manifest_lints_findings::near;
 use manifests::TargetFacts;
@@ -15,10 +15,10 @@ use std::cell::OnceCell;
 use std::collections::BTreeSet;
 use target_tables::{TableError, TargetRow, TargetTable, read_table};
 
-/// The maximal number of targets. Names are searched linearly.
+/// The maximum number of targets. Names are searched linearly.
 const MOST: usize = 10_000;
 
-/// The targets of a file, or the known ones, and others that are added to them.
+/// The targets of a file, or the known targets, with others that are added to them.
 #[derive(Drop)]
 pub struct GivenTargets {
     /// The path of the file, as it is displayed, or what else messages call the targets.
@@ -141,7 +141,7 @@ impl GivenTargets {
         })
     }
 
-    /// Returns the same targets, to which others can be added.
+    /// Returns a copy of the targets, to which others can be added.
     pub fn copy(&self, alloc: Global) -> Result<GivenTargets, AllocError> {
         let mut own = TargetTable::new(alloc);
         for row in self.own.rows() {
@@ -219,7 +219,7 @@ impl GivenTargets {
         self.has_known && KnownTarget::by_name(name).is_some()
     }
 
-    /// Returns whether there is a target of this name.
+    /// Returns whether one of the targets has this name.
     pub fn has_name(&self, name: &str) -> bool {
         self.own.by_name(name).is_some() || self.is_known(name)
     }
@@ -245,7 +245,7 @@ impl GivenTargets {
         }
     }
 
-    /// Returns the first name that differs from this one by one edit.
+    /// Returns the first name of a target that differs from this name by one edit, if there is one.
     pub fn nearest(&self, alloc: Global, name: &str) -> Result<Option<&str>, AllocError> {
         Ok(near(name, &self.names(alloc)?))
     }
@@ -253,7 +253,7 @@ impl GivenTargets {
     /// Returns the message for a name that no target has, with the nearest one.
     pub fn unknown(&self, alloc: Global, name: &str) -> Result<String, AllocError> {
         let file = self.file.as_str();
-        let shown = shown_name(alloc, name)?;
+        let shown = format_name(alloc, name)?;
         match self.nearest(alloc, name)? {
             Some(nearest) => {
                 format!(in alloc; "no target of {file} is named {shown}; did you mean {nearest}?")
@@ -318,7 +318,7 @@ impl GivenTargets {
         rows.any(|row| row.facts().iter().any(|it| it == fact))
     }
 
-    /// Returns the facts that no built-in target has, each once, as they are written.
+    /// Returns the facts of these targets that no known target has, each once.
     pub fn new_facts(&self, alloc: Global) -> Result<Vec<String>, AllocError> {
         let mut seen = BTreeSet::new(alloc);
         let mut texts = Vec::new(alloc);

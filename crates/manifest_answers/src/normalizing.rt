@@ -3,7 +3,7 @@
 use crate::cargo_refuses::{Rejected, rejected_by_cargo};
 use crate::deep::has_deep;
 use crate::dependency_rules::WorkspaceRoot;
-use cargo_platform::shown_text;
+use cargo_platform::printable_text;
 use input_limits::{INPUT, strip_byte_order_mark};
 use manifests::document;
 use manifests::reading::{Manifest, ManifestText, ReadError};
@@ -12,7 +12,7 @@ use std::rt::{Env, Files};
 use toml::Table;
 use workspaces::{Document, ManifestCache, inherits, put_inherited, root_of};
 
-/// Returns the manifest that a document is, with the lines of its keys where they are asked for, or a key is too deep.
+/// Returns the manifest of a document, with the lines of its keys if they are requested or a key is nested too deep.
 fn manifest_of(
     alloc: Global,
     path: &str,
@@ -20,7 +20,7 @@ fn manifest_of(
     with_lines: bool,
 ) -> Result<Manifest, AllocError> {
     let Document { text, table } = read;
-    let path = shown_text(alloc, path)?;
+    let path = printable_text(alloc, path)?;
     if with_lines || has_deep(alloc, &table)? {
         let text = strip_byte_order_mark(text.as_str());
         let document = document::Document::of(alloc, table, text)?;
@@ -40,7 +40,7 @@ fn text_of<R: Files + Input + AllocGlobal>(
         return ManifestText::read(rt, path, documents.limit);
     };
     let text = String::from_str(rt.alloc(), text)?;
-    Ok(ManifestText::of(shown_text(rt.alloc(), path)?, text))
+    Ok(ManifestText::of(printable_text(rt.alloc(), path)?, text))
 }
 
 /// Reads and parses the manifest that is named.

@@ -1,7 +1,7 @@
 //! The names that a command line leaves open, and whether keys use them.
 
 use cargo_platform::{Platform, ReadError, values_of};
-use key_answers::printing::shown_name;
+use key_answers::printing::format_name;
 use manifest_lints_findings::near;
 use manifests::{Targets, target_keys};
 use predicate_classes::rustc_names::name_in;
@@ -37,7 +37,7 @@ pub struct OpenNames {
 }
 
 impl OpenNames {
-    /// Returns these names, before a key is read.
+    /// Creates the list of these names, none of which is used by a key yet.
     pub fn new(alloc: Global, names: &[&str]) -> Result<OpenNames, AllocError> {
         let mut opened = Vec::new(alloc);
         for name in names {
@@ -85,7 +85,7 @@ impl OpenNames {
         Ok(())
     }
 
-    /// Returns a warning for each name that no key uses, a line each.
+    /// Returns the warnings for the names that no key uses, one a line.
     pub fn unused_names(&self, alloc: Global) -> Result<String, AllocError> {
         let mut lines = String::new(alloc);
         for opened in &self.names {
@@ -100,7 +100,7 @@ impl OpenNames {
 
 /// Returns the warning for a name that no key uses.
 fn unused_line(alloc: Global, opened: &Opened) -> Result<String, AllocError> {
-    let name = shown_name(alloc, opened.name.as_str())?;
+    let name = format_name(alloc, opened.name.as_str())?;
     match &opened.near {
         Some(near) => {
             let near = near.as_str();

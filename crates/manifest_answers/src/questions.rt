@@ -1,4 +1,4 @@
-//! `facts`, `targets` and `match`: queries on a single target or key.
+//! The answers of the commands `facts`, `targets` and `match`, which query a single target or key.
 
 ghost use Rattle.std.specs.Prelude.{◌↔◌, IsTrue, IfOk, map};
 ghost use Rattle.cargo_platform.specs.Trees.{value_of, condition_of};
@@ -6,13 +6,13 @@ ghost use Rattle.cargo_platform.specs.Facts.{fact_set, IsTrueCondition};
 
 use crate::given_targets::{FactsFrom, GivenTargets, non_blank_line};
 use cargo_platform::{
-    Cfg, FactIndex, FactsError, Platform, ReadError, read_facts, shown_start, values_of,
+    Cfg, FactIndex, FactsError, Platform, ReadError, printable_excerpt, read_facts, values_of,
 };
 use input_limits::strip_byte_order_mark;
 use key_answers::answer::{Answer, QueryError, Status};
 use key_answers::conditions::read_key;
 use key_answers::json_lines;
-use key_answers::printing::{fact_lines, invalid_cfg_message, invalid_fact_message, shown_name};
+use key_answers::printing::{fact_lines, format_name, invalid_cfg_message, invalid_fact_message};
 use key_answers::targets::names_of;
 use known_targets::{COUNT, KnownTarget, RUSTC_VERSION, TargetSet, matching, targets_with_fact};
 use manifest_lints_findings::{Finding, KeyLint, KnownFacts, lint_condition, nearest_target};
@@ -21,7 +21,7 @@ use std::alloc::{AllocError, Global};
 
 /// Returns the message for a name that no known target has, with the nearest name of a target.
 pub(crate) fn unknown_name(alloc: Global, name: &str) -> Result<String, AllocError> {
-    let shown = shown_name(alloc, name)?;
+    let shown = format_name(alloc, name)?;
     match nearest_target(alloc, name)? {
         Some(nearest) => format!(in alloc;
             "error: no target that rustc {RUSTC_VERSION} knows is named {shown}; did you mean {nearest}?\n"
@@ -50,8 +50,8 @@ fn without_facts(alloc: Global, name: &str) -> Result<String, AllocError> {
     let Some(own) = name_of_specification(name) else {
         return unknown_name(alloc, name);
     };
-    let file = shown_start(alloc, name)?;
-    let own = shown_name(alloc, own)?;
+    let file = printable_excerpt(alloc, name)?;
+    let own = format_name(alloc, own)?;
     let command = format!(in alloc; "rustc -Z unstable-options --print cfg --target {file}")?;
     format!(in alloc;
         "error: {file} is not a known target; ask for --target {own} with --facts FILE, or --facts -: {command}\n"
@@ -141,8 +141,8 @@ fn unknown_in_file(
     unknown_lines(alloc, key, condition, true)
 }
 
-/// Returns the facts of the target with this name.
-pub fn facts(alloc: Global, name: &str) -> Result<Answer, AllocError> {
+/// Returns the answer of `facts`: the facts of the known target with this name, one a line.
+pub fn known_target_facts(alloc: Global, name: &str) -> Result<Answer, AllocError> {
     match KnownTarget::by_name(name) {
         Some(target) => {
             let facts = target.facts(alloc)?;
@@ -153,8 +153,12 @@ pub fn facts(alloc: Global, name: &str) -> Result<Answer, AllocError> {
     }
 }
 
-/// Returns the facts of the target with this name in a file.
-pub fn facts_in(alloc: Global, name: &str, given: &GivenTargets) -> Result<Answer, QueryError> {
+/// Returns the answer of `facts` for a file of targets: the facts of its target with this name, one a line.
+pub fn given_target_facts(
+    alloc: Global,
+    name: &str,
+    given: &GivenTargets,
+) -> Result<Answer, QueryError> {
     let row = given.named(alloc, name)?;
     let text = fact_lines(alloc, row.facts())?;
     Ok(Answer::of(alloc, text, Status::Fine))
@@ -224,7 +228,7 @@ fn unknown_key(alloc: Global, name: &str) -> Result<String, AllocError> {
         Some(key) => Some(key),
         None => suggested_key(alloc, name)?,
     };
-    let name = shown_name(alloc, name)?;
+    let name = format_name(alloc, name)?;
     match meant {
         Some(meant) => format!(in alloc;
             "note: no target that rustc {RUSTC_VERSION} knows is named {name}; did you mean {meant}?\n"
@@ -248,8 +252,9 @@ fn counted(alloc: Global, condition: &Platform, targets: TargetSet) -> Result<St
     Ok(errors)
 }
 
-/// Returns the known targets on which the key is true.
-pub fn targets(alloc: Global, key: &str, json: bool) -> Result<Answer, QueryError> {
+/// Returns the answer of `targets`: the names of the known targets on which the key is true, one a line or, with
+/// `json`, as an array.
+pub fn known_targets_matching(alloc: Global, key: &str, json: bool) -> Result<Answer, QueryError> {
     let condition = read_key(alloc, key)?;
     let targets = matching(alloc, &condition)?;
     let errors = counted(alloc, &condition, targets)?;
@@ -277,8 +282,9 @@ fn counted_in(
     Ok(errors)
 }
 
-/// Returns the targets of a file on which the key is true.
-pub fn targets_in(
+/// Returns the answer of `targets` for a file of targets: the names of those on which the key is true, one a line or,
+/// with `json`, as an array.
+pub fn given_targets_matching(
     alloc: Global,
     key: &str,
     given: &GivenTargets,
@@ -331,7 +337,7 @@ pub(crate) fn facts_of_lines(alloc: Global, text: &str) -> Result<Vec<Cfg>, Quer
     }
 }
 
-/// Returns copies of facts.
+/// Returns a copy of these facts.
 pub fn copied(alloc: Global, facts: &[Cfg]) -> Result<Vec<Cfg>, AllocError> {
     let mut copies = Vec::new(alloc);
     for fact in facts {
@@ -412,7 +418,7 @@ fn push_verdict(
     applies: bool,
 ) -> Result<(), AllocError> {
     if let Some(name) = name {
-        text.push_str(shown_start(alloc, name)?.as_str())?;
+        text.push_str(printable_excerpt(alloc, name)?.as_str())?;
         text.push_str(": ")?;
     }
     text.push_str(if applies { "yes\n" } else { "no\n" })
@@ -466,9 +472,10 @@ fn verdicts(
     Ok(answer)
 }
 
-/// Returns, for each of the targets with these names, whose facts come from `from`, whether the key applies, a line
-/// each. If there are several targets, a line begins with the name.
-pub fn applies_to_each(
+/// Returns the answer of `match`: for each of the targets with these names, a line with `yes` if the key is true on it,
+/// and with `no` otherwise. The facts of the targets come from `from`, and those of `added` are added. If there are
+/// several targets, each line begins with the name.
+pub fn match_each_target(
     alloc: Global,
     key: &str,
     names: &[String],
@@ -482,7 +489,8 @@ pub fn applies_to_each(
     Ok(answer)
 }
 
-/// Returns whether the key is true on the target with this name, whose facts come from `from`.
+/// Returns whether the key is true on the target with this name, whose facts come from `from`, and those of `added` are
+/// added.
 pub fn applies(
     alloc: Global,
     key: &str,

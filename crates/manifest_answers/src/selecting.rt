@@ -7,12 +7,12 @@ use crate::faults::{ErrorReporter, Fault, span_of};
 use crate::given_targets::FactsFrom;
 use crate::opened::OpenNames;
 use crate::questions::{added_facts, facts_from, unknown_name};
-use cargo_platform::{Cfg, ParseError, shown_start};
+use cargo_platform::{Cfg, ParseError, printable_excerpt};
 use key_answers::answer::{Answer, QueryError, Status};
 use key_answers::json_lines;
 use key_answers::printing::{invalid_key_message, key_reason};
 use known_targets::KnownTarget;
-use manifest_lints_findings::shown_table;
+use manifest_lints_findings::format_table_name;
 use manifests::reading::Manifest;
 use manifests::{
     Decision, Dependency, DependencyDecision, Kind, SelectError, TargetFacts, decide_condition,
@@ -71,7 +71,7 @@ impl<'a> ShownTable<'a> {
         Ok(ShownTable {
             kind: dependency.kind,
             key,
-            shown: shown_table(alloc, key, dependency.kind.table_name())?,
+            shown: format_table_name(alloc, key, dependency.kind.table_name())?,
         })
     }
 
@@ -91,14 +91,14 @@ fn push_shown(text: &mut String, alloc: Global, name: &str) -> Result<(), AllocE
     if is_plain(name) {
         return text.push_str(name);
     }
-    text.push_str(shown_start(alloc, name)?.as_str())
+    text.push_str(printable_excerpt(alloc, name)?.as_str())
 }
 
 /// Appends the condition that remains to be decided, as it is printed after the word for the decision.
 fn push_residual(text: &mut String, alloc: Global, decision: &Decision) -> Result<(), AllocError> {
     if let Some(key) = residual(alloc, decision)? {
         text.push_str(" where ")?;
-        text.push_str(shown_start(alloc, key.as_str())?.as_str())?;
+        text.push_str(printable_excerpt(alloc, key.as_str())?.as_str())?;
     }
     Ok(())
 }
@@ -223,7 +223,7 @@ fn push_object<'a>(
 
 /// Returns the message for a key that is not a table.
 fn no_table_line(alloc: Global, path: &str, key: &str) -> Result<String, AllocError> {
-    let key = shown_start(alloc, key)?;
+    let key = printable_excerpt(alloc, key)?;
     format!(in alloc; "{path}: error: target.'{key}' is not a table\n")
 }
 
@@ -444,7 +444,7 @@ impl<'a> ManifestQuery for Selecting<'a> {
     }
 }
 
-/// A target that is selected.
+/// A selected target.
 #[derive(Drop)]
 pub struct Target {
     pub name: String,
@@ -562,8 +562,9 @@ fn known_of_each(
     Ok(known)
 }
 
-/// Returns what each target selects from the manifests at these paths, in their order, by the facts that the target and
-/// the host have. Those of the documents are not read again. Manifests of more bytes than their limit are rejected.
+/// Returns the dependencies that each target selects from the manifests at these paths, in the order of the paths, by
+/// the facts of the target and of the host. Manifests in the cache are not read again. Manifests that are larger than
+/// its limit are rejected.
 pub fn select_each<R: Files + Input + Env + AllocGlobal>(
     rt: &R,
     documents: &mut ManifestCache,

@@ -10,7 +10,7 @@ use crate::other_rustc::OtherRustc;
 use crate::styles::{OutputContext, style_of};
 use crate::target_names::{ALL_TARGETS, TargetsWithFlags, named_targets, targets_with_flags};
 use crate::target_specs::with_custom_targets;
-use cargo_platform::shown_text;
+use cargo_platform::printable_text;
 use clap::ArgMatches;
 use input_limits::{INPUT, InputError};
 use key_answers::answer::{Answer, QueryError, Status, answer_or_error};
@@ -50,7 +50,7 @@ fn targets_of_file<R: Files + Input + AllocGlobal>(
     };
     let alloc = rt.alloc();
     let text = text_of(rt, path, limit_of(matches))?;
-    let file = shown_text(alloc, path)?;
+    let file = printable_text(alloc, path)?;
     Ok(Some(GivenTargets::of(alloc, file, text.as_str())?))
 }
 
@@ -83,7 +83,7 @@ fn match_answer<R: Files + Input + AllocGlobal>(
     let from = facts_from(&lines, &given);
     let names = named_targets(rt.alloc(), matches, from)?;
     let added = matches.get_strs("cfg").unwrap_or(&[]);
-    questions::applies_to_each(rt.alloc(), word(matches, "key"), &names, from, added)
+    questions::match_each_target(rt.alloc(), word(matches, "key"), &names, from, added)
 }
 
 /// Returns the target of `select`, if it is the only one, and the output format.
@@ -182,7 +182,7 @@ fn unusable_targets(
             file: None,
         });
     }
-    let file = shown_text(alloc, word(matches, "facts-of"))?;
+    let file = printable_text(alloc, word(matches, "facts-of"))?;
     let reason = reason_in(message, file.as_str());
     Ok(InputError {
         reason: format!(in alloc; "cannot read the targets of `--facts-of`: {reason}")?,
@@ -287,8 +287,8 @@ fn targets_answer<R: Files + Input + AllocGlobal>(
     let key = word(matches, "key");
     let json = matches.get_flag("json");
     match given_targets(rt, matches)? {
-        Some(given) => questions::targets_in(rt.alloc(), key, &given, json),
-        None => questions::targets(rt.alloc(), key, json),
+        Some(given) => questions::given_targets_matching(rt.alloc(), key, &given, json),
+        None => questions::known_targets_matching(rt.alloc(), key, json),
     }
 }
 
@@ -299,8 +299,8 @@ fn facts_answer<R: Files + Input + AllocGlobal>(
 ) -> Result<Answer, QueryError> {
     let name = word(matches, "name");
     match given_targets(rt, matches)? {
-        Some(given) => questions::facts_in(rt.alloc(), name, &given),
-        None => Ok(questions::facts(rt.alloc(), name)?),
+        Some(given) => questions::given_target_facts(rt.alloc(), name, &given),
+        None => Ok(questions::known_target_facts(rt.alloc(), name)?),
     }
 }
 

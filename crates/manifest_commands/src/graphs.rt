@@ -5,7 +5,7 @@ use crate::limits::{limit_of, text_at, text_of};
 use crate::locks::{NamedLock, bill_of, lock_of};
 use crate::reports::{Report, report_on};
 use crate::words::command_given;
-use cargo_platform::shown_text;
+use cargo_platform::printable_text;
 use clap::ArgMatches;
 use graph_queries::query::{FeatureArguments, GraphArguments, Provenance};
 use input_limits::INPUT;
@@ -17,7 +17,7 @@ use std::{env, fs, io};
 
 /// Returns the error for a file that can't be written.
 fn file_error(alloc: Global, file: &str, error: &io::Error) -> Result<Answer, AllocError> {
-    let file = shown_text(alloc, file)?;
+    let file = printable_text(alloc, file)?;
     let text = format!(in alloc; "{file}: error: {error}\n")?;
     Ok(Answer::unusable(alloc, text))
 }

@@ -1,6 +1,6 @@
 //! Inputs, read up to the limit of the option `--limit`.
 
-use cargo_platform::shown_text;
+use cargo_platform::printable_text;
 use clap::ArgMatches;
 use input_limits::{InputError, LIMIT, read_file, read_input};
 use key_answers::answer::QueryError;
@@ -34,7 +34,7 @@ fn text_read(
             if error.kind() == ErrorKind::OutOfMemory {
                 return Err(QueryError::Memory(AllocError));
             }
-            let unusable = InputError::refused(alloc, shown_text(alloc, file)?, &error, limit)?;
+            let unusable = InputError::refused(alloc, printable_text(alloc, file)?, &error, limit)?;
             Err(QueryError::Unusable(unusable.line(alloc)?))
         }
     }

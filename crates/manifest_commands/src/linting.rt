@@ -10,7 +10,7 @@ use cargo_configuration::{
     configuration_beside, explain_unsupported, is_configuration, manifest_beside,
     manifest_with_targets,
 };
-use cargo_platform::{shown_start, shown_text};
+use cargo_platform::{printable_excerpt, printable_text};
 use diagnostics::{
     Diagnostic, DiagnosticLevel, EmittedDiagnostic, Occurrence, Rule, level_by_each, status_of,
 };
@@ -209,7 +209,7 @@ impl<'a> LintRun<'a> {
         if let Some(fixing) = options.fixing {
             self.fix_root(rt, root, is_whole, fixing)?;
         }
-        let path = shown_text(alloc, root.file.as_str())?;
+        let path = printable_text(alloc, root.file.as_str())?;
         let locations = places_at(rt, &mut self.documents, root.file.as_str())?;
         let found = found_in_root(alloc, root, &locations, is_whole)?;
         let rules = Rules {
@@ -456,7 +456,7 @@ fn push_undecided(
 ) -> Result<(), AllocError> {
     for place in &report.undecided {
         if let Some(key) = report.keys.get(*place) {
-            let key = shown_start(alloc, key.text)?;
+            let key = printable_excerpt(alloc, key.text)?;
             let note = format!(in alloc;
                 "{path}: note: target.'{key}': too complex to decide `always`, `never` and `equivalent`\n"
             )?;

@@ -2,7 +2,7 @@
 
 use crate::VERSION;
 use crate::limits::{limit_of, text_at};
-use cargo_platform::shown_text;
+use cargo_platform::printable_text;
 use clap::ArgMatches;
 use cyclonedx::{LockFile, LockFileError, LockFileFault, parse_lock_file};
 use diagnostics::{Diagnostic, DiagnosticLevel, EmittedDiagnostic, diagnostic_of_failure};
@@ -82,7 +82,7 @@ pub fn lock_of<R: Files + AllocGlobal>(
     };
     let read = text_at(rt, file, limit_of(matches))?;
     let text = strip_byte_order_mark(read.as_str());
-    let name = shown_text(alloc, file)?;
+    let name = printable_text(alloc, file)?;
     match parse_lock_file(alloc, text) {
         Ok(lock) => Ok(Some(NamedLock { name, lock })),
         Err(LockFileError::Fault(fault)) => {

@@ -1,12 +1,12 @@
 //! The manifests that a command line selects.
 
-use cargo_platform::shown_text;
+use cargo_platform::printable_text;
 use clap::ArgMatches;
 use input_limits::{INPUT, InputError, read_input};
 use manifests::reading::ReadError;
 use std::alloc::{AllocError, Global};
 use std::rt::{Env, Files};
-use workspaces::{Found, ManifestCache, ManifestSelection, find, put_text};
+use workspaces::{FoundManifests, ManifestCache, ManifestSelection, find, put_text};
 
 /// The paths of the selected manifests, and the errors for those that can't be found.
 #[derive(Drop)]
@@ -53,7 +53,7 @@ fn manifest_given<R: Files + Input + AllocGlobal>(
     match read_input(rt, INPUT, documents.limit) {
         Ok(text) => Ok(put_text(rt, documents, path, text)?),
         Err(error) => {
-            let path = shown_text(alloc, path)?;
+            let path = printable_text(alloc, path)?;
             let refused = InputError::refused(alloc, path, &error, documents.limit)?;
             let reason = refused.reason.as_str();
             let reason = format!(in alloc; "cannot read standard input: {reason}")?;
@@ -97,7 +97,7 @@ pub fn find_manifests<R: Files + Input + Env + AllocGlobal + Clone + Drop>(
             Err(error) => return SelectedManifests::unusable(alloc, error.into_input_error(alloc)?),
         }
     }
-    let Found {
+    let FoundManifests {
         paths,
         unusable,
         warnings,

@@ -2,7 +2,7 @@
 
 use crate::limits::{reason_in, text_at};
 use crate::other_rustc::OtherRustc;
-use cargo_platform::shown_text;
+use cargo_platform::printable_text;
 use key_answers::answer::QueryError;
 use lint_reports::{CustomTarget, Settings};
 use manifest_answers::given_targets::GivenTargets;
@@ -32,7 +32,7 @@ impl ManifestFile<'_> {
         match text_at(rt, file.as_str(), self.limit) {
             Ok(text) => given.add(alloc, target.name.as_str(), text.as_str()),
             Err(QueryError::Unusable(message)) => {
-                let shown = shown_text(alloc, file.as_str())?;
+                let shown = printable_text(alloc, file.as_str())?;
                 let reason = reason_in(message.as_str(), shown.as_str());
                 Err(QueryError::Unusable(String::from_str(alloc, reason)?))
             }
@@ -63,7 +63,7 @@ impl ManifestFile<'_> {
             match self.add_target(rt, target, &mut given) {
                 Ok(()) => {}
                 Err(QueryError::Unusable(message)) => {
-                    let shown = shown_text(alloc, target.file.as_str())?;
+                    let shown = printable_text(alloc, target.file.as_str())?;
                     let reason = reason_in(message.as_str(), "");
                     let reason = format!(in alloc; "cannot use `{shown}`: {reason}")?;
                     settings.reject_target(alloc, target.entry, reason)?;

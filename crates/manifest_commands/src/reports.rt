@@ -1,6 +1,6 @@
 //! The report of `graph` on the output of `cargo metadata`.
 
-use cargo_platform::shown_text;
+use cargo_platform::printable_text;
 use graph_answers::cyclonedx_report::{BomContext, misplaced_format, show_bill};
 use graph_answers::{
     Audit, AuditPolicy, GivenPolicy, GraphNames, arguments_by_policy, exclude, kinds_of, page_of,
@@ -9,7 +9,7 @@ use graph_answers::{
 use graph_lines::show;
 use graph_queries::graph::Graph;
 use graph_queries::query::{GraphArguments, GraphQuery, argument_error};
-use graph_queries::reading::{Input, Rejected, document_of, graph_in, graph_of};
+use graph_queries::reading::{GraphDocument, Rejected, document_of, graph_in, graph_of};
 use key_answers::answer::{Answer, QueryError, Status, answer_or_error};
 use selected_targets::{TableSelection, group_targets};
 use serde_json::Value;
@@ -124,13 +124,13 @@ fn report_on_document(
 ) -> Result<Report, Rejected> {
     let Request { query, table, kind } = request;
     let source = (file, document);
-    let mut input = Input::of(alloc, document, query.packages)?;
+    let mut input = GraphDocument::of(alloc, document, query.packages)?;
     if let Some(audit) = &kind.audit {
         exclude(alloc, &mut input.linked, audit.excluded())?;
     }
     match table {
         Some(table) => {
-            let Input {
+            let GraphDocument {
                 document,
                 metadata,
                 mut linked,
@@ -138,7 +138,7 @@ fn report_on_document(
             } = input;
             let groups = group_targets(alloc, table, &metadata, &mut linked)?;
             let query = query.in_groups(&groups);
-            let input = Input {
+            let input = GraphDocument {
                 document,
                 metadata,
                 linked,
@@ -172,7 +172,7 @@ fn report_against(
 ) -> Result<Report, Rejected> {
     let (old_file, old_text) = against;
     let failing = kinds_of(alloc, fail_on)?;
-    let old_file = shown_text(alloc, old_file)?;
+    let old_file = printable_text(alloc, old_file)?;
     let old_document = of_file(alloc, old_file.as_str(), document_of(alloc, old_text))?;
     let old = graph_in(alloc, &old_document, query);
     let old = of_file(alloc, old_file.as_str(), old)?;
@@ -217,7 +217,7 @@ fn report_by(
     arguments: &GraphArguments<'_>,
     request: Request<'_, '_>,
 ) -> Result<Report, QueryError> {
-    let file = shown_text(alloc, file)?;
+    let file = printable_text(alloc, file)?;
     let document = of_file(alloc, file.as_str(), document_of(alloc, text))?;
     let report = match arguments.against {
         Some(against) => report_against(

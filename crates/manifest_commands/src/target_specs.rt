@@ -2,7 +2,7 @@
 
 use crate::limits::{reason_in, text_of};
 use crate::target_names::ALL_TARGETS;
-use cargo_platform::{Platform, shown_text};
+use cargo_platform::{Platform, printable_text};
 use key_answers::answer::QueryError;
 use key_answers::conditions::read_key;
 use manifest_answers::given_targets::GivenTargets;
@@ -55,7 +55,7 @@ impl<'a> CustomTarget<'a> {
 
 /// Returns the error of a value.
 fn refused(alloc: Global, value: &str, reason: &str) -> Result<QueryError, AllocError> {
-    let value = shown_text(alloc, value)?;
+    let value = printable_text(alloc, value)?;
     let line = format!(in alloc; "error: --target-spec {value}: {reason}\n")?;
     Ok(QueryError::Unusable(line))
 }
@@ -98,7 +98,7 @@ pub fn with_custom_targets<R: Files + Input + AllocGlobal>(
         match target.add_to(rt, &mut given, limit) {
             Ok(()) => {}
             Err(QueryError::Unusable(message)) => {
-                let file = shown_text(alloc, target.file)?;
+                let file = printable_text(alloc, target.file)?;
                 let reason = reason_in(message.as_str(), file.as_str());
                 return Err(refused(alloc, target.value, reason)?);
             }

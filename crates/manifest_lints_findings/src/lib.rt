@@ -27,7 +27,7 @@ pub use lints::{LINTS_NOT_ON_KEYS, Lint};
 pub use meant::{near, nearest_target};
 pub use notes_and_helps::Children;
 pub use places::{
-    Site, TableDiagnostic, add_top_level_diagnostics, shown_table, table_diagnostics,
+    Site, TableDiagnostic, add_top_level_diagnostics, format_table_name, table_diagnostics,
 };
 pub use pointing::SecondarySpans;
 pub use suggestions::KnownFacts;

@@ -16,7 +16,7 @@ use crate::no_tables::meant_tables;
 use crate::readings::{CargoReading, KeyMeaning};
 use crate::suggestions::{KnownFacts, instead_of};
 use crate::wording::{first_shown, joined, quoted, quoted_fact};
-use cargo_platform::{Cfg, CfgExpr, Platform, shown_text};
+use cargo_platform::{Cfg, CfgExpr, Platform, printable_text};
 use predicate_classes::classes::{Category, Class};
 use predicate_classes::key_predicates::KeyPredicate;
 use std::alloc::{AllocError, Global};
@@ -132,7 +132,7 @@ fn by_cargo_note(alloc: Global, marked: &CargoReading) -> Result<String, AllocEr
     ensures { IfOk result (λ s. Mentions (cargo_words marked.now ∷ []) (string_bytes s)) }
 {
     let warnings = joined(alloc, &marked.warnings, marked.count, " ")?;
-    let text = shown_text(alloc, warnings.as_str())?;
+    let text = printable_text(alloc, warnings.as_str())?;
     format!(in alloc; "Cargo warns: {text}")
 }
 
@@ -194,7 +194,7 @@ fn unsupported_note(alloc: Global, key: &AnalysedKey<'_>) -> Result<String, Allo
     )?;
     let warnings = warnings_on(alloc, &facts)?;
     let words = joined(alloc, &warnings, warnings.len(), " ")?;
-    let text = shown_text(alloc, words.as_str())?;
+    let text = printable_text(alloc, words.as_str())?;
     format!(in alloc; "Cargo warns: {text}")
 }
 

@@ -4,7 +4,7 @@ use crate::codes::Level;
 use crate::lints::Lint;
 use crate::meant::near;
 use crate::notes_and_helps::Children;
-use cargo_platform::shown_start;
+use cargo_platform::printable_excerpt;
 use known_targets::KnownTarget;
 use manifests::key_locations::key_path;
 use std::alloc::{AllocError, Global};
@@ -74,7 +74,7 @@ fn unread(
     path: String,
     help: String,
 ) -> Result<TableDiagnostic, AllocError> {
-    let name = shown_start(alloc, name)?;
+    let name = printable_excerpt(alloc, name)?;
     Ok(TableDiagnostic {
         lint: Lint::Misplaced,
         level: Level::Warning,
@@ -95,7 +95,7 @@ fn add_unread(
     found: &mut Vec<TableDiagnostic>,
 ) -> Result<(), AllocError> {
     let path = key_path(alloc, &[name])?;
-    let meant = shown_start(alloc, meant)?;
+    let meant = printable_excerpt(alloc, meant)?;
     let help = format!(in alloc; "did you mean `{meant}`?")?;
     found.push(unread(alloc, name, path, help)?)?;
     Ok(())
@@ -188,7 +188,7 @@ impl<'a> PackageTable<'a> {
     /// Returns the help to write a key of `target` in its place. `workspace.dependencies` is for all packages of the
     /// workspace, and each of them has its own keys.
     fn help_for(&self, alloc: Global, key: &str) -> Result<String, AllocError> {
-        let key = shown_start(alloc, key)?;
+        let key = printable_excerpt(alloc, key)?;
         let name = self.name;
         if self.is_of_workspace {
             return format!(in alloc; "write `target.'{key}'.{name}` in the manifests of packages");
@@ -205,7 +205,7 @@ impl<'a> PackageTable<'a> {
         level: Level,
     ) -> Result<TableDiagnostic, AllocError> {
         let table = self.shown(alloc)?;
-        let shown = shown_start(alloc, member)?;
+        let shown = printable_excerpt(alloc, member)?;
         let (subject, message) = if member == TARGET {
             let message = "Cargo takes `target` for the name of a package";
             (format!(in alloc; "{table}.{shown}")?, message)
@@ -358,10 +358,14 @@ fn underscored_help(alloc: Global, other: &str, is_taken: bool) -> Result<String
 
 /// Formats the name of a table as its header spells it: at the top level, or under a key of `target`. Fails if memory
 /// is refused.
-pub fn shown_table(alloc: Global, key: Option<&str>, name: &str) -> Result<String, AllocError> {
+pub fn format_table_name(
+    alloc: Global,
+    key: Option<&str>,
+    name: &str,
+) -> Result<String, AllocError> {
     match key {
         Some(key) => {
-            let key = shown_start(alloc, key)?;
+            let key = printable_excerpt(alloc, key)?;
             format!(in alloc; "target.'{key}'.{name}")
         }
         None => String::from_str(alloc, name),
@@ -397,7 +401,7 @@ fn underscored(
         } else {
             Level::Warning
         },
-        subject: shown_table(alloc, key, name)?,
+        subject: format_table_name(alloc, key, name)?,
         key: None,
         site: site_of_table(alloc, key, name)?,
         message: String::from_str(alloc, underscored_message(is_refused))?,

@@ -7,7 +7,7 @@ ghost use Rattle.manifest_lints_findings.specs.Chosen.{fact_text, quoted_value};
 ghost use Rattle.manifest_lints_findings.specs.Texts.{quoted_text, and_more, joined_first, both_texts};
 ghost use Rattle.manifest_lints_findings.specs.declared.wording.TheConstants.{MOST_SHOWN};
 
-use cargo_platform::{Cfg, shown_start};
+use cargo_platform::{Cfg, printable_excerpt};
 use predicate_classes::key_predicates::KeyPredicate;
 use std::alloc::{AllocError, Global};
 
@@ -18,7 +18,7 @@ pub const MOST_SHOWN: usize = 3;
 pub fn quoted(alloc: Global, text: &str) -> Result<String, AllocError>
     ensures { IfOk result (λ s. string_bytes s ≡ quoted_text text.now) }
 {
-    let shown = shown_start(alloc, text)?;
+    let shown = printable_excerpt(alloc, text)?;
     format!(in alloc; "`{shown}`")
 }
 

@@ -2,7 +2,7 @@
 
 use crate::document::Document;
 use crate::key_locations::Location;
-use cargo_platform::shown_text;
+use cargo_platform::printable_text;
 use input_limits::{INPUT, InputError, read_input, strip_byte_order_mark};
 use std::alloc::{AllocError, Global};
 use std::fs;
@@ -161,7 +161,7 @@ impl ManifestText {
     ) -> Result<ManifestText, ReadError> {
         let alloc = rt.alloc();
         let file = file_at(rt, path)?;
-        let path = shown_text(alloc, file.as_str())?;
+        let path = printable_text(alloc, file.as_str())?;
         match read_input(rt, file.as_str(), limit) {
             Ok(text) => Ok(ManifestText { path, text }),
             Err(error) => {

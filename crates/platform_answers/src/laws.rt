@@ -12,7 +12,7 @@ pub fn one_answer()
 
 /// A snippet shows all of a text of at most 100 characters, and otherwise at most 100 characters, with the first 40 of
 /// the span.
-pub fn shown_part()
+pub fn snippet_excerpt()
     ensures whole { (size before inside : ℕ) → ShowsWhole size before inside }
     ensures few { (size before inside : ℕ) → ShowsFew size before inside }
     ensures start { (size before : ℕ) → ShowsStart size before }

@@ -4,7 +4,7 @@ use cargo_metadata::Metadata;
 use cargo_metadata::graphs::Linked;
 use cargo_platform::{Platform, ReadError};
 use key_answers::answer::{QueryError, argument_error, file_error};
-use key_answers::printing::shown_name;
+use key_answers::printing::format_name;
 use known_targets::{COUNT, KnownTarget, TargetSet};
 use std::alloc::{AllocError, Global};
 use target_tables::{TargetRow, TargetTable};
@@ -23,7 +23,7 @@ pub struct TableSelection<'a> {
 
 /// Returns the message for a name that no target of a file has.
 fn no_target(alloc: Global, file: &str, name: &str) -> Result<String, AllocError> {
-    let name = shown_name(alloc, name)?;
+    let name = format_name(alloc, name)?;
     format!(in alloc; "no target of {file} is named {name}")
 }
 

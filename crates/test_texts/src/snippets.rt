@@ -1,6 +1,6 @@
 //! The snippets of rejected texts.
 
-use cargo_platform::{CfgExpr, ParseError, Platform, ReadError, shown_start, shown_text};
+use cargo_platform::{CfgExpr, ParseError, Platform, ReadError, printable_excerpt, printable_text};
 use std::alloc::Global;
 use test_rows::Fault;
 use test_rows::bars::{add_text, barred};
@@ -51,8 +51,8 @@ fn lines(alloc: Global, snippet: Option<String>) -> Result<String, Fault> {
 
 /// Returns a text as it is displayed as a whole, and its start.
 fn shown(alloc: Global, text: &str) -> Result<String, Fault> {
-    let mut out = barred(alloc, &shown_text(alloc, text)?)?;
+    let mut out = barred(alloc, &printable_text(alloc, text)?)?;
     out.push(' ')?;
-    add_text(&mut out, &shown_start(alloc, text)?)?;
+    add_text(&mut out, &printable_excerpt(alloc, text)?)?;
     Ok(out)
 }

@@ -2,11 +2,11 @@
 //! with a version or without; `cargo build --package`: globs) and by the rules of `.gitignore` for paths.
 
 use crate::documents::{ManifestCache, real_path};
-use crate::finding::{Found, ManifestSelection, root_of};
+use crate::finding::{FoundManifests, ManifestSelection, root_of};
 use crate::lint_inheritance::is_inherited;
 use crate::manifests::{folder_of, package_name, simplified_path, table_in, text_in};
-use crate::patterns::{Pattern, PatternError, is_glob, names_of};
-use cargo_platform::shown_text;
+use crate::patterns::{Pattern, PatternError, folder_names, is_glob};
+use cargo_platform::printable_text;
 use std::alloc::{AllocError, Global};
 use std::rt::{Env, Files};
 use toml::Table;
@@ -111,7 +111,7 @@ fn matches_name(alloc: Global, text: &str, name: &str) -> Result<bool, AllocErro
         return Ok(text == name);
     }
     match Pattern::from_str(alloc, text) {
-        Ok(pattern) => pattern.matches(alloc, &names_of(alloc, name)?),
+        Ok(pattern) => pattern.matches(alloc, &folder_names(alloc, name)?),
         Err(PatternError::GlobError(_)) => Ok(false),
         Err(PatternError::Memory(refused)) => Err(refused),
     }
@@ -145,7 +145,7 @@ fn matches_above(alloc: Global, glob: &str, path: &str) -> Result<bool, AllocErr
         Err(PatternError::GlobError(_)) => return Ok(false),
         Err(PatternError::Memory(refused)) => return Err(refused),
     };
-    let names = names_of(alloc, path)?;
+    let names = folder_names(alloc, path)?;
     for count in 1..=names.len() {
         if pattern.matches(alloc, names.get(..count).unwrap_or(&[]))? {
             return Ok(true);
@@ -259,11 +259,11 @@ fn add_unknown(
     alloc: Global,
     selection: &ManifestSelection,
     candidates: &[Candidate],
-    found: &mut Found,
+    found: &mut FoundManifests,
 ) -> Result<(), AllocError> {
     for text in &selection.packages {
         if !means_some(alloc, text.as_str(), candidates)? {
-            let text = shown_text(alloc, text.as_str())?;
+            let text = printable_text(alloc, text.as_str())?;
             let reason = format!(in alloc; "no package of the workspace is named {text}")?;
             found.push(reason)?;
         }
@@ -276,11 +276,11 @@ fn add_unneeded(
     alloc: Global,
     selection: &ManifestSelection,
     candidates: &[Candidate],
-    found: &mut Found,
+    found: &mut FoundManifests,
 ) -> Result<(), AllocError> {
     for text in &selection.excluded {
         if !leaves_out_some(alloc, text.as_str(), candidates)? {
-            let text = shown_text(alloc, text.as_str())?;
+            let text = printable_text(alloc, text.as_str())?;
             let line = format!(in alloc;
                 "warning: --exclude {text}: no package or path matches\n"
             )?;
@@ -298,7 +298,7 @@ pub fn choose<R: Files + Env + AllocGlobal>(
     rt: &R,
     documents: &mut ManifestCache,
     selection: &ManifestSelection,
-    found: &mut Found,
+    found: &mut FoundManifests,
 ) -> Result<(), AllocError> {
     let alloc = rt.alloc();
     let candidates = candidates_at(rt, documents, &found.paths)?;

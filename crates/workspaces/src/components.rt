@@ -73,7 +73,7 @@ impl Piece<char> for Part {
 }
 
 /// The name of a folder, as its characters.
-pub type Name = Vec<char>;
+pub type FolderName = Vec<char>;
 
 /// A component of a glob.
 #[derive(Drop)]

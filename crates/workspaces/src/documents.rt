@@ -79,18 +79,18 @@ fn path_of_root(manifest: &Table) -> Option<&str> {
 /// A file that has been read.
 #[derive(Drop)]
 struct ReadFile {
-    /// None if the file can't be used, or if the document has been taken.
+    /// `None` if the file can't be used, or if the document has been taken.
     document: Option<Document>,
     is_taken: bool,
     /// The number of times that the document is still to be taken, as far as that is known.
     uses: usize,
     root: RootPlace,
-    /// The text, if it was given in place of that of the file.
+    /// The text that is used in place of that of the file, if there is one.
     given: Option<String>,
 }
 
 impl ReadFile {
-    /// Returns what a file that can't be used has.
+    /// Returns the entry for a file that can't be used.
     fn none() -> ReadFile {
         ReadFile {
             document: None,
@@ -101,7 +101,7 @@ impl ReadFile {
         }
     }
 
-    /// Returns what a file with this text has. `table` is what the text spells, if it is TOML.
+    /// Returns the entry for a file with this text. `table` is the table of the text, if the text is TOML.
     fn of(alloc: Global, text: String, table: Option<Table>) -> Result<ReadFile, AllocError> {
         let Some(table) = table else {
             return Ok(ReadFile::none());
@@ -156,7 +156,7 @@ impl ReadFile {
     }
 }
 
-/// Returns the path of a file without links, or the path as it is given where that is not known.
+/// Returns the path of a file without links, or the unchanged path if that is not known.
 pub(crate) fn real_path<R: Files + AllocGlobal>(rt: &R, file: &str) -> Result<String, AllocError> {
     match if_successful(fs::canonicalize(rt, file))? {
         Some(path) => Ok(path.into_string()),
@@ -281,9 +281,8 @@ impl ManifestCache {
         Ok(())
     }
 
-    /// Takes the manifest at a path out of the cache, if it has been read and can be used. If it is still needed, it is
-    /// copied.
-    /// Standard input has not been read.
+    /// Takes the manifest at a path out of the cache, or copies it if it is still needed. Returns `None` if it has not
+    /// been read or can't be used, and for standard input, which is never in the cache.
     ///
     /// Fails only if an allocation fails.
     pub fn take<R: Files + AllocGlobal>(

@@ -31,17 +31,18 @@ pub struct ManifestSelection {
     pub alone: bool,
 }
 
-/// The selected manifests.
+/// The manifests that [`find`] found.
 #[derive(Drop)]
-pub struct Found {
+pub struct FoundManifests {
+    /// The paths of the manifests, each once.
     pub paths: Vec<String>,
     /// The errors for manifests that can't be found.
     pub unusable: Vec<InputError>,
-    /// A warning a line, for each entry of `excluded` that matches no manifest.
+    /// The warnings for the entries of `excluded` that match no manifest, one a line.
     pub warnings: String,
 }
 
-impl Found {
+impl FoundManifests {
     /// Adds an error.
     pub(crate) fn push(&mut self, reason: String) -> Result<(), AllocError> {
         self.unusable.push(InputError { file: None, reason })?;
@@ -200,7 +201,7 @@ fn is_same<R: Files + AllocGlobal>(
 fn add_error<R: Files + AllocGlobal>(
     rt: &R,
     error: InputError,
-    found: &mut Found,
+    found: &mut FoundManifests,
 ) -> Result<(), AllocError> {
     for other in &found.unusable {
         if is_same(rt, other, &error)? {
@@ -216,7 +217,7 @@ fn add_members<R: Files + AllocGlobal + Clone + Drop>(
     rt: &R,
     documents: &mut ManifestCache,
     file: &str,
-    found: &mut Found,
+    found: &mut FoundManifests,
 ) -> Result<(), AllocError> {
     let mut errors = Vec::new(rt.alloc());
     for folder in &members_of(rt, documents, file, &mut errors)? {
@@ -237,7 +238,7 @@ fn add_meant<R: Files + Env + AllocGlobal + Clone + Drop>(
     documents: &mut ManifestCache,
     selection: &ManifestSelection,
     file: &str,
-    found: &mut Found,
+    found: &mut FoundManifests,
 ) -> Result<(), AllocError> {
     if file == INPUT {
         found.paths.push(String::from_str(rt.alloc(), file)?)?;
@@ -257,7 +258,7 @@ fn add_all<R: Files + Env + AllocGlobal + Clone + Drop>(
     documents: &mut ManifestCache,
     selection: &ManifestSelection,
     named: &[String],
-    found: &mut Found,
+    found: &mut FoundManifests,
 ) -> Result<(), AllocError> {
     for path in named {
         let file = file_of(rt, path.as_str())?;
@@ -272,7 +273,7 @@ fn add_at_hand<R: Files + Env + AllocGlobal + Clone + Drop>(
     rt: &R,
     documents: &mut ManifestCache,
     selection: &ManifestSelection,
-    found: &mut Found,
+    found: &mut FoundManifests,
 ) -> Result<(), AllocError> {
     let Some(file) = manifest_above(rt)? else {
         let reason = "no `Cargo.toml` is here or in a folder above";
@@ -281,7 +282,7 @@ fn add_at_hand<R: Files + Env + AllocGlobal + Clone + Drop>(
     add_meant(rt, documents, selection, file.as_str(), found)
 }
 
-/// Returns those of the paths that lead to a manifest to which no path before leads.
+/// Returns the paths without those that lead to the manifest of an earlier path.
 fn each_once<R: Files + AllocGlobal>(rt: &R, paths: &[String]) -> Result<Vec<String>, AllocError> {
     let mut seen = BTreeSet::new(rt.alloc());
     let mut once = Vec::new(rt.alloc());
@@ -311,7 +312,7 @@ fn nearer_paths(alloc: Global, folder: &str, paths: &[String]) -> Result<Vec<Str
     Ok(found)
 }
 
-/// Returns those of the paths that lead to a manifest to which no path before leads, as they lead from the current
+/// Returns the paths without those that lead to the manifest of an earlier path, each simplified from the current
 /// folder.
 fn once_from_here<R: Files + Env + AllocGlobal>(
     rt: &R,
@@ -330,9 +331,9 @@ pub fn find<R: Files + Env + AllocGlobal + Clone + Drop>(
     rt: &R,
     documents: &mut ManifestCache,
     selection: &ManifestSelection,
-) -> Result<Found, AllocError> {
+) -> Result<FoundManifests, AllocError> {
     let alloc = rt.alloc();
-    let mut found = Found {
+    let mut found = FoundManifests {
         paths: Vec::new(alloc),
         unusable: Vec::new(alloc),
         warnings: String::new(alloc),

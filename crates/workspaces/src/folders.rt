@@ -1,6 +1,6 @@
 //! The folders below a root that a glob may match.
 
-use crate::components::{Component, Name};
+use crate::components::{Component, FolderName};
 use crate::documents::real_path;
 use crate::glob_matching::Piece;
 use crate::manifests::{if_successful, is_folder, join_path};
@@ -163,7 +163,7 @@ fn add_lower<R: Files + AllocGlobal>(
 
 /// Returns whether the component matches a name.
 fn matches(alloc: Global, component: &Component, name: &str) -> Result<bool, AllocError> {
-    let characters: Name = name.chars().collect(alloc)?;
+    let characters: FolderName = name.chars().collect(alloc)?;
     component.matches(alloc, &characters)
 }
 
@@ -183,7 +183,7 @@ fn add_named<R: Files + AllocGlobal + Clone + Drop>(
     Ok(())
 }
 
-/// Returns the folders in these that a component of a glob may match. `text` is the component as it is written.
+/// Returns the folders in these that a component of a glob may match. `text` is the component's text.
 fn next_of<R: Files + AllocGlobal + Clone + Drop>(
     rt: &R,
     root: &str,

@@ -19,13 +19,15 @@ mod member_rules;
 mod members;
 mod patterns;
 
-pub use components::{CharacterRange, Characters, Component, Name, Part};
+pub use components::{CharacterRange, Characters, Component, FolderName, Part};
 pub use dependency_inheritance::{
     first_mistyped_addition, first_mistyped_field, inheritance_error, inherits, is_of_2024,
     put_inherited,
 };
 pub use documents::{Document, ManifestCache};
-pub use finding::{Found, ManifestSelection, current_folder_depth, find, put_text, root_of};
+pub use finding::{
+    FoundManifests, ManifestSelection, current_folder_depth, find, put_text, root_of,
+};
 pub use glob_matching::{Piece, matches_pieces};
 pub use lint_inheritance::{InheritableFields, inherits_lints};
 pub use manifests::{
@@ -34,5 +36,5 @@ pub use manifests::{
 };
 pub use member_rules::MemberRules;
 pub use patterns::{
-    GlobError, Pattern, PatternError, is_glob, names_of, plain_components, some_matches,
+    GlobError, Pattern, PatternError, folder_names, is_glob, plain_components, some_matches,
 };

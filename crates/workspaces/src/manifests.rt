@@ -16,7 +16,7 @@ use toml::{Table, Value, table_from_str};
 /// The file name of a manifest.
 pub const MANIFEST: &str = "Cargo.toml";
 
-/// Returns the path to which a path leads from a folder. An absolute path stays as it is. The folder `""` is the
+/// Returns the path to which a path leads from a folder. An absolute path is returned unchanged. The folder `""` is the
 /// current one.
 ///
 /// Fails only if an allocation fails.
@@ -46,7 +46,7 @@ pub fn ancestor_path(alloc: Global, count: usize, path: &str) -> Result<String, 
     Ok(text)
 }
 
-/// Returns the path without the components that lead nowhere: `.`, empty ones, and `..` with the one before it.
+/// Returns the path without redundant components: `.`, empty ones, and `..` with the one before it.
 pub fn simplified_path(alloc: Global, path: &str) -> Result<String, AllocError> {
     let mut text = String::new(alloc);
     for component in &plain_components(alloc, path)? {

@@ -11,9 +11,10 @@ use std::alloc::{AllocError, Global};
 pub struct MemberRules {
     /// The globs of `members`.
     pub members: Vec<Pattern>,
-    /// For each path of `exclude`, what is in or below it.
+    /// For each path of `exclude`, the pattern that matches its folder and all folders below it.
     pub excluded: Vec<Pattern>,
-    /// For each text of `members` as it stands, what is in or below it: `exclude` does not count there.
+    /// For each text of `members`, read as a path and not as a glob, the pattern of this folder and those below it.
+    /// `exclude` does not apply to these folders.
     pub named: Vec<Pattern>,
 }
 

@@ -8,8 +8,8 @@ use crate::manifests::{
     folder_of, is_file, join_manifest_path, join_path, simplified_path, table_in, texts_in,
 };
 use crate::member_rules::MemberRules;
-use crate::patterns::{GlobError, Pattern, PatternError, names_of};
-use cargo_platform::shown_text;
+use crate::patterns::{GlobError, Pattern, PatternError, folder_names};
+use cargo_platform::printable_text;
 use input_limits::InputError;
 use std::alloc::{AllocError, Global};
 use std::collections::BTreeSet;
@@ -24,8 +24,8 @@ fn push_unusable(
     reason: &str,
 ) -> Result<(), AllocError> {
     unusable.push(InputError {
-        file: Some(shown_text(alloc, file)?),
-        reason: shown_text(alloc, reason)?,
+        file: Some(printable_text(alloc, file)?),
+        reason: printable_text(alloc, reason)?,
     })?;
     Ok(())
 }
@@ -92,7 +92,7 @@ fn globs_of(
     Ok(globs)
 }
 
-/// Returns, for each path, the pattern of what is in or below it.
+/// Returns, for each path, the pattern that matches its folder and all folders below it.
 fn all_below(alloc: Global, paths: &[String]) -> Result<Vec<Pattern>, AllocError> {
     let mut patterns = Vec::new(alloc);
     for path in paths {
@@ -198,7 +198,7 @@ impl Members {
         folder: &str,
         pattern: &Pattern,
     ) -> Result<bool, AllocError> {
-        let names = names_of(alloc, folder)?;
+        let names = folder_names(alloc, folder)?;
         if !pattern.matches(alloc, &names)? {
             return self.rules.have(alloc, &names);
         }
@@ -235,7 +235,7 @@ impl Members {
         if is_outside(path) || self.folders.contains(path) {
             return Ok(());
         }
-        let names = names_of(alloc, path)?;
+        let names = folder_names(alloc, path)?;
         if !self.rules.exclude(alloc, &names)? {
             self.add(alloc, path)?;
         }

@@ -3,7 +3,7 @@
 ghost use Rattle.std.specs.Prelude.{◌↔◌, IsTrue, IfOk};
 ghost use Rattle.workspaces.specs.Members.{IsMatchedBy, IsMatchedBySome};
 
-use crate::components::{CharacterRange, Characters, Component, Name, Part};
+use crate::components::{CharacterRange, Characters, Component, FolderName, Part};
 use crate::glob_matching::matches_pieces;
 use std::alloc::{AllocError, Global};
 
@@ -35,12 +35,12 @@ impl From<AllocError> for PatternError {
     }
 }
 
-/// Returns whether a component of a glob has a character that stands for others.
+/// Returns whether a text contains a wildcard of globs: `*`, `?` or `[`.
 pub fn is_glob(text: &str) -> bool {
     text.contains('*') || text.contains('?') || text.contains('[')
 }
 
-/// Returns the components of a path without those that lead nowhere: `.`, and `..` with the one before it.
+/// Returns the components of a path without redundant ones: `.`, empty ones, and `..` with the one before it.
 pub fn plain_components<'a>(alloc: Global, path: &'a str) -> Result<Vec<&'a str>, AllocError> {
     let mut components: Vec<&'a str> = Vec::new(alloc);
     for component in path.split('/') {
@@ -60,8 +60,8 @@ pub fn plain_components<'a>(alloc: Global, path: &'a str) -> Result<Vec<&'a str>
     Ok(components)
 }
 
-/// Returns the path of a folder as names.
-pub fn names_of(alloc: Global, path: &str) -> Result<Vec<Name>, AllocError> {
+/// Returns the names of the folders in a path, without redundant components.
+pub fn folder_names(alloc: Global, path: &str) -> Result<Vec<FolderName>, AllocError> {
     let mut names = Vec::new(alloc);
     for component in &plain_components(alloc, path)? {
         names.push(component.chars().collect(alloc)?)?;
@@ -120,7 +120,8 @@ struct Bracketed {
     length: usize,
 }
 
-/// Parses the bracket at the beginning of a text. A `]` directly after the bracket, or after `[!`, stands for itself.
+/// Parses the bracket at the beginning of a text. A `]` directly after the bracket, or after `[!`, is an
+/// ordinary character.
 fn read_bracket(alloc: Global, text: &[char]) -> Result<Bracketed, PatternError> {
     let are_excluded = text.get(1) == Some(&'!');
     let begin: usize = if are_excluded { 2 } else { 1 };
@@ -173,9 +174,9 @@ fn component_of(alloc: Global, text: &str) -> Result<Component, PatternError> {
 }
 
 impl Pattern {
-    /// Reads a glob: `*` stands for any characters of a name, `?` for one, `[a-z]` and `[!a-z]` for one of some or of
-    /// others, and `**` as a whole component for any number of folders, at the end for at least one. It refuses a text
-    /// that is no glob.
+    /// Parses a glob. `*` matches any characters of a name, `?` matches one, `[a-z]` matches one of some characters,
+    /// and `[!a-z]` matches one of the others. `**` as a whole component matches any number of folders, and at the end
+    /// at least one. Fails if the text is not a glob.
     pub fn from_str(alloc: Global, text: &str) -> Result<Pattern, PatternError> {
         let mut components = Vec::new(alloc);
         for component in &plain_components(alloc, text)? {
@@ -193,7 +194,8 @@ impl Pattern {
         Ok(Pattern { components })
     }
 
-    /// Returns the pattern of a folder and of all below it. Each character of the folder's path stands for itself.
+    /// Returns the pattern that matches a folder and all folders below it. No character of the folder's path is a
+    /// wildcard.
     pub fn below(alloc: Global, path: &str) -> Result<Pattern, AllocError> {
         let mut components = Vec::new(alloc);
         for component in &plain_components(alloc, path)? {

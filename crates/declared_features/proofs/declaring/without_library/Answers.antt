@@ -4,7 +4,7 @@ use Rattle.std.proofs.lemmas.Option.{slice_get_read}
 use Rattle.declared_features.specs.Lists.{SomeAt}
 use Rattle.declared_features.specs.Manifests.{IsWithoutLibrary}
 use Rattle.declared_features.specs.NameSets.{HasName, AddsNames}
-use Rattle.declared_features.specs.declared.manifests.Manifest.{Manifest}
+use Rattle.declared_features.specs.declared.manifests.PackageDeclaration.{PackageDeclaration}
 use Rattle.declared_features.proofs.Growing.{grown_at_next, grown_at_end, grown_as, just_names}
 use Rattle.declared_features.proofs.Missing.{lacks_library, named_without}
 use Rattle.declared_features.proofs.declaring.without_library.Goals as goal
@@ -13,7 +13,7 @@ pub manifests-preserved : goal.manifests-preserved
 manifests-preserved c =
     let ms = c.args.manifests.now in
     let i = c.manifests.i in
-    let P : ℕ → Manifest → List ℕ → Type 0 =
+    let P : ℕ → PackageDeclaration → List ℕ → Type 0 =
     λ i m q. cond (is_some m.library) None (option_map (λ p. p.name.now)
     (slice_get c.args.metadata.now.packages.items i)) ≡ Some q in
     grown_at_next (HasName c.new-names.result) (HasName c.manifests.names) (HasName c.add_name.new.names) ms i
@@ -26,7 +26,7 @@ pub returns : goal.returns
 returns c =
     let ms = c.args.manifests.now in
     let packages = c.args.metadata.now.packages.items in
-    let P : ℕ → Manifest → List ℕ → Type 0 =
+    let P : ℕ → PackageDeclaration → List ℕ → Type 0 =
     λ i m q. cond (is_some m.library) None (option_map (λ p. p.name.now) (slice_get packages i)) ≡ Some q in
     just_names c.new-names.result c.manifests.names (IsWithoutLibrary packages ms) c.new-names.ensures.empty
     (grown_as (HasName c.new-names.result) (HasName c.manifests.names) (λ q. SomeAt ms (λ i m. P i m q))

@@ -12,7 +12,7 @@ use Rattle.declared_features.specs.Inside.Names.{index_in}
 use Rattle.declared_features.specs.declared.declaring.DependencyRow.{DependencyRow}
 use Rattle.declared_features.specs.declared.linking.Named.{Named}
 use Rattle.declared_features.specs.declared.manifests.DeclaredDependency.{DeclaredDependency}
-use Rattle.declared_features.specs.declared.manifests.Manifest.{Manifest}
+use Rattle.declared_features.specs.declared.manifests.PackageDeclaration.{PackageDeclaration}
 use Rattle.declared_features.proofs.Matching.{matches_none, matches_as, matches_more}
 use Rattle.declared_features.proofs.Describing.{link_first, link_more, link_before, link_here, link_row, row_link}
 use Rattle.declared_features.proofs.Placing.{element_at}
@@ -111,7 +111,7 @@ returns-in_default c =
     let node = c.args.node in
     let rows = c.in_ok-rows.rows.items in
     let none : manifest_at graph.declared.now node ≡ None =
-    sym c.manifest.ensures ∙ ap (λ (o : Option (Bor Manifest)). option_copied o) c.in_default.is in
+    sym c.manifest.ensures ∙ ap (λ (o : Option (Bor PackageDeclaration)). option_copied o) c.in_default.is in
     record {
       rows = rows;
       rows_are = c.in_ok-rows.ensures;
@@ -120,7 +120,7 @@ returns-in_default c =
           (λ link found. IsNamedOf (index_in c.args.names.now) node link.0 link.1 found) c.new-found.result.items
           c.new-found.ensures.items
           (λ link is.
-          let h = subst (λ (o : Option Manifest). Contains (dependencies_in o) link.1) none is.declared_is in
+          let h = subst (λ (o : Option PackageDeclaration). Contains (dependencies_in o) link.1) none is.declared_is in
           let inside = h.1 in
           omega arith);
     }
@@ -142,7 +142,7 @@ returns c =
       rows = rows.items;
       rows_are = c.in_ok-rows.ensures;
       matches =
-          subst (λ (o : Option Manifest). MatchesJust (IsLink graph node rows.items
+          subst (λ (o : Option PackageDeclaration). MatchesJust (IsLink graph node rows.items
           (dependencies_in o)) R c.rows.found.items)
           c.in-Some.ensures whole;
     }

@@ -2,7 +2,7 @@ use Rattle.std.proofs.Common.{◌≡◌, ◌<◌, ◌≤◌, ℕ, List, Option, 
 use Rattle.std.specs.Option.{option_copied}
 use Rattle.declared_features.specs.Manifests.{feature_index, features_in}
 use Rattle.declared_features.specs.declared.manifests.Feature.{Feature}
-use Rattle.declared_features.specs.declared.manifests.Manifest.{Manifest}
+use Rattle.declared_features.specs.declared.manifests.PackageDeclaration.{PackageDeclaration}
 use Rattle.cargo_metadata.specs.Indexes.{index_at}
 use Rattle.declared_features.proofs.Positions.{index_more, index_whole}
 use Rattle.declared_features.proofs.linking.feature_indexes.Goals as goal
@@ -22,6 +22,6 @@ pub returns : goal.returns
 returns c =
     let fs = c.in-Some.manifest.now.features in
     let past : length fs.items ≤ c.features.i = omega (arith, c.features-test.false, c.len-i-end.ensures, fs.ok.0) in
-    subst (λ (o : Option (Bor Manifest)). (q : List ℕ)
+    subst (λ (o : Option (Bor PackageDeclaration)). (q : List ℕ)
     → index_at c.features.indexes q ≡ feature_index (features_in (option_copied o)) q) (sym c.in-Some.is)
     (index_whole (λ (f : Feature). f.name.now) fs.items c.features.i (index_at c.features.indexes) past c.features.invariant)

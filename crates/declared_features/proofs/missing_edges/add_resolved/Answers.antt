@@ -8,7 +8,7 @@ use Rattle.declared_features.specs.NameSets.{HasName, AddsNames}
 use Rattle.declared_features.specs.MissingEdges.{IsEnabled, TurnOn}
 use Rattle.declared_features.specs.declared.entries.FeatureEntry.{FeatureEntry}
 use Rattle.declared_features.specs.declared.manifests.Feature.{Feature}
-use Rattle.declared_features.specs.declared.manifests.Manifest.{Manifest}
+use Rattle.declared_features.specs.declared.manifests.PackageDeclaration.{PackageDeclaration}
 use Rattle.declared_features.proofs.Growing.{grown_at_next, grown_at_end, grown_as}
 use Rattle.declared_features.proofs.missing_edges.add_resolved.Goals as goal
 
@@ -37,7 +37,7 @@ returns c numbers =
     let P : ℕ → Feature → List ℕ → Type 0 =
     λ i f q. IsEnabled c.args.resolved.now c.args.node i × TurnOn f.lists.items q in
     let past : length fs.items ≤ c.features.i = omega (arith, c.features-test.false, c.len-i-end.ensures, fs.ok.0) in
-    subst (λ (o : Option Manifest). AddsNames c.args.names.now c.features.names
+    subst (λ (o : Option PackageDeclaration). AddsNames c.args.names.now c.features.names
     (λ q. SomeAt (features_in o) (λ i f. P i f q))) c.in-Some.ensures
     (grown_at_end (HasName c.args.names.now) (HasName c.features.names) fs.items c.features.i P past
     (c.features.invariant numbers))

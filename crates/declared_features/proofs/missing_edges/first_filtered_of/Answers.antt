@@ -6,7 +6,7 @@ use Rattle.serde_json.specs.View.{view}
 use Rattle.declared_features.specs.Manifests.{dependencies_in, features_in}
 use Rattle.declared_features.specs.NameSets.{HasJustNames}
 use Rattle.declared_features.specs.declared.manifests.DeclaredDependency.{DeclaredDependency}
-use Rattle.declared_features.specs.declared.manifests.Manifest.{Manifest}
+use Rattle.declared_features.specs.declared.manifests.PackageDeclaration.{PackageDeclaration}
 use Rattle.declared_features.specs.MissingEdges.{MayBeFiltered, IsFilteredOut, IsTurnedOnIn, IsFirst}
 use Rattle.declared_features.proofs.First.{none_next, none_end, first_here}
 use Rattle.declared_features.proofs.Missing.{any_as}
@@ -14,7 +14,7 @@ use Rattle.declared_features.proofs.missing_edges.first_filtered_of.Goals as goa
 
 pub is_filtered_out-requires-clause-enabled : goal.is_filtered_out-requires-clause-enabled
 is_filtered_out-requires-clause-enabled c =
-    subst (λ (o : Option Manifest). HasJustNames c.in_ok-enabled.enabled
+    subst (λ (o : Option PackageDeclaration). HasJustNames c.in_ok-enabled.enabled
     (IsTurnedOnIn (view c.args.searched.now.graph.document.now) c.args.node (features_in o))) c.in-Some.ensures
     c.in_ok-enabled.ensures
 
@@ -24,7 +24,7 @@ returns-then-not-may_be_filtered_any-clause-none c some =
     let graph = c.args.searched.now.graph in
     let ds = c.in-Some.manifest.now.dependencies.items in
     let here : Any (IsFilteredOut graph c.args.node) ds =
-    subst (λ (o : Option Manifest). Any (IsFilteredOut graph c.args.node) (dependencies_in o)) (sym c.in-Some.ensures)
+    subst (λ (o : Option PackageDeclaration). Any (IsFilteredOut graph c.args.node) (dependencies_in o)) (sym c.in-Some.ensures)
     some in
     let may_be =
     any_as (IsFilteredOut graph c.args.node) (MayBeFiltered graph c.args.node) ds (λ d is. is.may_be) here in
@@ -40,7 +40,7 @@ returns-then-is_filtered_out-clause-found c =
     let ds = c.in-Some.manifest.now.dependencies in
     let d = c.index-declared.result.now in
     let below : c.declared.i < length ds.items = omega (arith, c.declared-test.true, c.len-i-end.ensures, ds.ok.0) in
-    subst (λ (o : Option Manifest). IsFirst P (dependencies_in o) d) c.in-Some.ensures
+    subst (λ (o : Option PackageDeclaration). IsFirst P (dependencies_in o) d) c.in-Some.ensures
     (first_here P ds.items c.declared.i d below c.index-declared.ensures
     (c.is_filtered_out.ensures.0 c.if-is_filtered_out.true) c.declared.invariant)
 
@@ -57,5 +57,5 @@ returns-clause-none c =
     let P = IsFilteredOut c.args.searched.now.graph c.args.node in
     let ds = c.in-Some.manifest.now.dependencies in
     let past : length ds.items ≤ c.declared.i = omega (arith, c.declared-test.false, c.len-i-end.ensures, ds.ok.0) in
-    subst (λ (o : Option Manifest). ¬ Any P (dependencies_in o)) c.in-Some.ensures
+    subst (λ (o : Option PackageDeclaration). ¬ Any P (dependencies_in o)) c.in-Some.ensures
     (none_end P ds.items c.declared.i past c.declared.invariant)

@@ -7,7 +7,7 @@ use Rattle.declared_features.specs.Members.{SomeStandsFor, HasListsOf}
 use Rattle.declared_features.specs.Inside.Names.{index_in}
 use Rattle.declared_features.specs.declared.entries.FeatureEntry.{FeatureEntry}
 use Rattle.declared_features.specs.declared.manifests.Feature.{Feature}
-use Rattle.declared_features.specs.declared.manifests.Manifest.{Manifest}
+use Rattle.declared_features.specs.declared.manifests.PackageDeclaration.{PackageDeclaration}
 use Rattle.declared_features.proofs.Describing.{lists_none, lists_more}
 use Rattle.declared_features.proofs.Placing.{length_push}
 use Rattle.declared_features.proofs.linking.Lists.of_features.Goals as goal
@@ -40,7 +40,7 @@ features-preserved c =
 pub returns-clause-count : goal.returns-clause-count
 returns-clause-count c =
     let fs = c.in-Some.manifest.now.features in
-    subst (λ (o : Option (Bor Manifest)). length c.features.features.items ≡ length (features_in (option_copied o)))
+    subst (λ (o : Option (Bor PackageDeclaration)). length c.features.features.items ≡ length (features_in (option_copied o)))
     (sym c.in-Some.is)
     (omega
     (arith, c.features.invariant.0, c.features-test.false, c.features.auto.i-end, c.len-i-end.ensures, fs.ok.0))
@@ -50,7 +50,7 @@ returns-clause-lists c =
     let self = c.args.self.now in
     let fs = c.in-Some.manifest.now.features in
     let IsMember = SomeStandsFor (index_in self.names.now) self.node self.found.now in
-    subst (λ (o : Option (Bor Manifest)). HasListsOf IsMember (features_in (option_copied o)) c.features.features.items)
+    subst (λ (o : Option (Bor PackageDeclaration)). HasListsOf IsMember (features_in (option_copied o)) c.features.features.items)
     (sym c.in-Some.is)
     (subst (λ (fs : List Feature). HasListsOf IsMember fs c.features.features.items)
     (take_all c.features.i fs.items (omega (arith, c.features-test.false, c.len-i-end.ensures, fs.ok.0)))

@@ -1,5 +1,5 @@
 use Rattle.diagnostics.proofs.Making.{one}
-use Rattle.diagnostics.proofs.level_laws.one_level.Goals as goal
+use Rattle.diagnostics.proofs.laws.one_level.Goals as goal
 
 pub returns : goal.returns
 returns c = one

@@ -1,5 +1,5 @@
 use Rattle.diagnostics.proofs.Making.{last}
-use Rattle.diagnostics.proofs.level_laws.the_last_decides.Goals as goal
+use Rattle.diagnostics.proofs.laws.the_last_decides.Goals as goal
 
 pub returns : goal.returns
 returns c = last

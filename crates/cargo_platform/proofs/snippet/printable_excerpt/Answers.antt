@@ -1,7 +1,7 @@
 use Rattle.std.proofs.Common.{◌∙◌, sym, arith}
 use Rattle.std.proofs.lemmas.Result.{IfOk-weaker}
 use Rattle.cargo_platform.proofs.Snippets.{shown_as_is}
-use Rattle.cargo_platform.proofs.snippet.shown_start.Goals as goal
+use Rattle.cargo_platform.proofs.snippet.printable_excerpt.Goals as goal
 
 pub returns-then-is_printable_ascii : goal.returns-then-is_printable_ascii
 returns-then-is_printable_ascii c =
