@@ -6,7 +6,7 @@ mod keys;
 pub mod laws;
 mod texts;
 
-pub use keys::{KeyError, MOST_GROUPS, deep_at, deep_text, read_key};
+pub use keys::{KeyError, MAX_GROUP_DEPTH, too_deep_at, too_deep_message, read_key};
 pub use texts::{
-    INPUT, InputError, LIMIT, read_file, read_input, read_text, reason_of, strip_byte_order_mark,
+    STDIN_PATH, InputError, DEFAULT_LIMIT, read_file, read_input, read_text, reason_of, strip_byte_order_mark,
 };
