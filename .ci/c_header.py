@@ -21,7 +21,7 @@ TABLE = ROOT / "crates" / "known_targets" / "src" / "table.rt"
 PARAMETERS = {
     "&[u8]": (["const uint8_t *NAME", "size_t NAME_length"], ["NAME: *const u8", "NAME_length: usize"]),
     "&mut [u8]": (["uint8_t *NAME", "size_t NAME_length"], ["NAME: *mut u8", "NAME_length: usize"]),
-    "&mut [u64; WORDS]": (["uint64_t NAME[NEVGRASI_WORDS]"], ["NAME: *mut [u64; WORDS]"]),
+    "&mut [u64; SET_WORDS]": (["uint64_t NAME[NEVGRASI_WORDS]"], ["NAME: *mut [u64; WORDS]"]),
     "&mut Outcome": (["nevgrasi_outcome *NAME"], ["NAME: *mut Outcome"]),
     "usize": (["size_t NAME"], ["NAME: usize"]),
     "u64": (["uint64_t NAME"], ["NAME: u64"]),
@@ -30,7 +30,7 @@ PARAMETERS = {
 FOR_C, FOR_RUST = 0, 1
 
 # The names that some constants have for C and for Rust, and for C alone. Callers have compiled with those for C.
-NAMES = {"COUNT": "TARGETS"}
+NAMES = {"COUNT": "TARGETS", "SET_WORDS": "WORDS"}
 NAMES_OF_C = {"MAX_OPEN": "MOST_OPEN", "MAX_FLAT_BYTES": "MOST_FLAT_BYTES"}
 
 FIELDS = {"u32": "uint32_t", "bool": "bool", "usize": "size_t"}

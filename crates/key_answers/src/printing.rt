@@ -4,7 +4,8 @@ ghost use Rattle.std.specs.Prelude.{◌≡◌, ◌++◌, ◌==◌, IfOk, OnOk, f
 ghost use Rattle.std.specs.List.{list_any};
 ghost use Rattle.cargo_platform.specs.FaultLaws.{IsSpanIn};
 ghost use Rattle.cargo_platform.specs.Trees.{value_of};
-ghost use Rattle.key_answers.specs.Printing.{fact_line, key_too_deep_message, is_unclosed, is_unopened, error_text, unopened_text};
+ghost use Rattle.key_answers.specs.Printing.{fact_line, key_too_deep_message, is_unclosed, is_unopened, error_text};
+ghost use Rattle.key_answers.specs.Printing.{unopened_text};
 ghost use Rattle.key_answers.specs.Printing.{IsKeyReason};
 
 use cargo_platform::{Cfg, ParseError, shown_start};

@@ -28,7 +28,7 @@ use byte_answers::{
     DONE, MAX_FLAT_BYTES, NO_MEMORY, NOT_FLAT, NOT_UTF8, Outcome, REFUSED, Relation, TOO_DEEP,
     UNDECIDED, UNKNOWN_TARGET, VERSION,
 };
-use known_targets::{COUNT, WORDS};
+use known_targets::{COUNT, SET_WORDS};
 use std::alloc::Global;
 
 /// The version of the interface. It rises whenever a caller of an earlier version may break.
@@ -183,7 +183,7 @@ pub extern "C" fn nevgrasi_match_keys(
 pub extern "C" fn nevgrasi_targets(
     alloc: Global,
     key: &[u8],
-    words: &mut [u64; WORDS],
+    words: &mut [u64; SET_WORDS],
     out: &mut [u8],
     outcome: &mut Outcome,
 ) -> u32
