@@ -20,11 +20,11 @@ mod platforms;
 mod search;
 
 pub use expressions::{
-    CanHold, MustHold, always, can_be_met, can_hold, equivalent, exclude, implies,
+    CanHold, MustHold, always, has_possible_facts, can_hold, equivalent, exclude, implies,
 };
 pub use fact_constraints::{FAMILY_RULE, FactConstraints, family_rule};
 pub use partial_facts::ONE_VALUED;
 pub use platforms::{
-    CanSelect, MustSelect, PossibleTarget, always_platform, can_hold_platform, equivalent_platform,
+    Satisfiability, Validity, PossibleTarget, always_platform, can_hold_platform, equivalent_platform,
     exclude_platform, implies_platform,
 };

@@ -12,5 +12,5 @@ mod table;
 mod verdicts;
 
 pub use releases::Release;
-pub use rows::{Bounds, former_fact, former_target, has_former_value, name_now};
+pub use rows::{RemovalReleases, former_fact, former_target, has_former_value, current_name};
 pub use verdicts::Verdict;

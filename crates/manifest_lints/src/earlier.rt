@@ -14,7 +14,7 @@ ghost use Rattle.manifest_lints.specs.Classes.{TellsNoneEquivalent};
 
 use crate::sample_sets::{equivalence_fingerprint, truths};
 use cargo_platform::{CfgExpr, Platform};
-use exact_answers::{FactConstraints, MustSelect, equivalent_platform};
+use exact_answers::{FactConstraints, Validity, equivalent_platform};
 use known_targets::{WORDS, matching};
 use std::alloc::{AllocError, Global};
 use std::collections::BTreeMap;
@@ -296,9 +296,9 @@ impl<'a> Keys<'a> {
                 continue;
             };
             match equivalent_platform(alloc, *other, platform, known, splits)? {
-                MustSelect::Yes => return Ok(Earlier::Equivalent(*first)),
-                MustSelect::No(_) => {}
-                MustSelect::Undecided => return Ok(Earlier::Undecided),
+                Validity::Yes => return Ok(Earlier::Equivalent(*first)),
+                Validity::No(_) => {}
+                Validity::Undecided => return Ok(Earlier::Undecided),
             }
         }
         Ok(Earlier::Unlike)
