@@ -20,7 +20,7 @@ use crate::outcome::{DONE, NO_MEMORY, NOT_UTF8, Outcome, REFUSED, TOO_DEEP, UNDE
 use crate::reading::read_condition;
 use cargo_platform::{CfgExpr, Platform};
 use exact_answers::{
-    Satisfiability, FactConstraints, Validity, ONE_VALUED, PossibleTarget, can_hold_platform,
+    FactConstraints, ONE_VALUED, PossibleTarget, Satisfiability, Validity, can_hold_platform,
     equivalent_platform, exclude_platform, family_rule, implies_platform,
 };
 use std::alloc::{AllocError, Global};

@@ -20,7 +20,7 @@ ghost use Rattle.std.specs.FinSet.{contains};
 use crate::fact_constraints::FactConstraints;
 use cargo_platform::{Cfg, Facts, Ident, Listed};
 use partial_facts::Knowledge;
-use partial_facts::names::{has_value, is_named, has_key};
+use partial_facts::names::{has_key, has_value, is_named};
 use std::alloc::{AllocError, Global};
 
 /// A pair that was open, and whether it is taken as a fact.

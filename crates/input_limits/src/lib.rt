@@ -6,7 +6,8 @@ mod keys;
 pub mod laws;
 mod texts;
 
-pub use keys::{KeyError, MAX_GROUP_DEPTH, too_deep_at, too_deep_message, read_key};
+pub use keys::{KeyError, MAX_GROUP_DEPTH, read_key, too_deep_at, too_deep_message};
 pub use texts::{
-    STDIN_PATH, InputError, DEFAULT_LIMIT, read_file, read_input, read_text, reason_of, strip_byte_order_mark,
+    DEFAULT_LIMIT, InputError, STDIN_PATH, read_file, read_input, read_text, reason_of,
+    strip_byte_order_mark,
 };

@@ -7,7 +7,7 @@ use crate::printing::shown_example;
 use crate::work::{Keys, split_budget};
 use cargo_platform::{CfgExpr, Platform};
 use exact_answers::{
-    FactConstraints, Validity, ONE_VALUED, PossibleTarget, exclude_platform, family_rule,
+    FactConstraints, ONE_VALUED, PossibleTarget, Validity, exclude_platform, family_rule,
     implies_platform,
 };
 use known_targets::{COUNT, TargetSet, matching};

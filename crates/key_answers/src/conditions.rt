@@ -6,7 +6,7 @@ ghost use Rattle.cargo_platform.specs.Platforms.{IsConditionText};
 ghost use Rattle.input_limits.specs.Limits.{IsShallow};
 
 use crate::answer::QueryError;
-use crate::printing::{key_too_deep_message, invalid_key_message};
+use crate::printing::{invalid_key_message, key_too_deep_message};
 use cargo_platform::Platform;
 use input_limits::KeyError;
 use std::alloc::Global;

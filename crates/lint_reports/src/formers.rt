@@ -3,7 +3,7 @@
 use crate::settings::Settings;
 use cargo_platform::{Cfg, Platform, ReadError, values_of};
 use former_names::{
-    RemovalReleases, Release, Verdict, former_fact, former_target, has_former_value, current_name,
+    Release, RemovalReleases, Verdict, current_name, former_fact, former_target, has_former_value,
 };
 use manifest_lints_findings::{Children, Level, Lint, Site, TableDiagnostic};
 use manifests::{ExpectedCfgs, Targets, target_keys};

@@ -2,7 +2,9 @@
 
 use crate::questions::{copied, facts_of_lines};
 use cargo_platform::{Cfg, CfgExpr, Platform};
-use exact_answers::{Satisfiability, FactConstraints, Validity, always_platform, can_hold_platform};
+use exact_answers::{
+    FactConstraints, Satisfiability, Validity, always_platform, can_hold_platform,
+};
 use input_limits::strip_byte_order_mark;
 use key_answers::answer::QueryError;
 use key_answers::printing::{invalid_fact_message, shown_name};

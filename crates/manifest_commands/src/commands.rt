@@ -12,7 +12,7 @@ use crate::target_names::{ALL_TARGETS, TargetsWithFlags, named_targets, targets_
 use crate::target_specs::with_custom_targets;
 use cargo_platform::shown_text;
 use clap::ArgMatches;
-use input_limits::{STDIN_PATH, InputError};
+use input_limits::{InputError, STDIN_PATH};
 use key_answers::answer::{Answer, QueryError, Status, answer_or_error};
 use key_answers::comparing::compare;
 use lint_fixes::FixOptions;

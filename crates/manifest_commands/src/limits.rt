@@ -2,7 +2,7 @@
 
 use cargo_platform::shown_text;
 use clap::ArgMatches;
-use input_limits::{InputError, DEFAULT_LIMIT, read_file, read_input};
+use input_limits::{DEFAULT_LIMIT, InputError, read_file, read_input};
 use key_answers::answer::QueryError;
 use std::alloc::{AllocError, Global};
 use std::io::{self, ErrorKind};

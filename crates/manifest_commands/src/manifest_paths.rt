@@ -2,7 +2,7 @@
 
 use cargo_platform::shown_text;
 use clap::ArgMatches;
-use input_limits::{STDIN_PATH, InputError, read_input};
+use input_limits::{InputError, STDIN_PATH, read_input};
 use manifests::reading::ReadError;
 use std::alloc::{AllocError, Global};
 use std::rt::{Env, Files};

@@ -9,7 +9,9 @@ ghost use Rattle.manifest_lints.specs.Truths.{IsNever, IsAlways, CanHold, CanFai
 
 use crate::shown_by_samples::is_shown;
 use cargo_platform::{Platform, nesting_beyond};
-use exact_answers::{Satisfiability, FactConstraints, Validity, always_platform, can_hold_platform};
+use exact_answers::{
+    FactConstraints, Satisfiability, Validity, always_platform, can_hold_platform,
+};
 use std::alloc::{AllocError, Global};
 
 /// The maximum number of case splits in a search for a condition of at most `FEW` facts. With more facts it is lower.

@@ -3,7 +3,7 @@
 use crate::document::Document;
 use crate::key_locations::Location;
 use cargo_platform::shown_text;
-use input_limits::{STDIN_PATH, InputError, read_input, strip_byte_order_mark};
+use input_limits::{InputError, STDIN_PATH, read_input, strip_byte_order_mark};
 use std::alloc::{AllocError, Global};
 use std::fs;
 use std::io::ErrorKind;

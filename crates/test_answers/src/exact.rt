@@ -4,9 +4,9 @@ use crate::all_sets::Question;
 use crate::row_facts;
 use cargo_platform::{Cfg, CfgExpr, Platform};
 use exact_answers::{
-    CanHold, Satisfiability, FactConstraints, MustHold, Validity, ONE_VALUED, PossibleTarget, always,
-    always_platform, has_possible_facts, can_hold, can_hold_platform, equivalent, equivalent_platform,
-    exclude, exclude_platform, family_rule, implies, implies_platform,
+    CanHold, FactConstraints, MustHold, ONE_VALUED, PossibleTarget, Satisfiability, Validity,
+    always, always_platform, can_hold, can_hold_platform, equivalent, equivalent_platform, exclude,
+    exclude_platform, family_rule, has_possible_facts, implies, implies_platform,
 };
 use std::alloc::{AllocError, Global};
 use test_rows::Fault;

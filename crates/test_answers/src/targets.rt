@@ -4,7 +4,7 @@ use crate::row_facts;
 use cargo_platform::{Cfg, CfgExpr, FactIndex, Facts, Platform};
 use known_targets::{
     COUNT, KnownFact, KnownTarget, PartialTarget, RUSTC_VERSION, TargetSet, all_facts,
-    certainly_matching, partition_targets, matching, possibly_matching, targets_with_fact,
+    certainly_matching, matching, partition_targets, possibly_matching, targets_with_fact,
 };
 use partial_facts::decide_platform;
 use std::alloc::{AllocError, Global};

@@ -7,7 +7,7 @@ use crate::manifests::{
     join_path, parse_table, simplified_from, simplified_path,
 };
 use crate::members::members_of;
-use input_limits::{STDIN_PATH, InputError};
+use input_limits::{InputError, STDIN_PATH};
 use std::alloc::{AllocError, Global};
 use std::collections::BTreeSet;
 use std::env;

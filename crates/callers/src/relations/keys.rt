@@ -7,7 +7,7 @@ ghost use Rattle.exact_answers.specs.Asking.{NeedsMore};
 ghost use Rattle.exact_answers.specs.Targets.{ForEach, IsExample, asked_trees};
 
 use cargo_platform::Platform;
-use exact_answers::{FactConstraints, Validity, PossibleTarget, implies_platform};
+use exact_answers::{FactConstraints, PossibleTarget, Validity, implies_platform};
 use std::alloc::{AllocError, Global};
 
 /// The result of moving a dependency.
