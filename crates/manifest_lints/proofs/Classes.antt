@@ -31,7 +31,7 @@ use Rattle.known_targets.specs.Bits.{has}
 use Rattle.known_targets.specs.Sets.{is_member}
 use Rattle.known_targets.specs.Table.{target_name, target_facts}
 use Rattle.known_targets.specs.declared.target_set.TargetSet.{TargetSet}
-use Rattle.known_targets.specs.declared.table.TheConstants.{COUNT, WORDS}
+use Rattle.known_targets.specs.declared.table.TheConstants.{COUNT, SET_WORDS}
 use Rattle.exact_answers.specs.Families.{IsSetWithFamily}
 use Rattle.exact_answers.specs.declared.fact_constraints.FactConstraints.{FactConstraints}
 use Rattle.manifest_lints.specs.Samples.{AreTruths, is_set, truth_by, all_by, any_by, one_valued}
@@ -512,7 +512,7 @@ module _ (old new : Keys) (m : Member) (class : Class) (number : Option ℕ) (e 
 -- ---- classes of expressions
 
 module _ (ws : List ℕ) (t : ℕ) (set : TargetSet) (e : Tree) (c : Condition)
-    (long : length ws ≡ WORDS) (small : (i : ℕ) → get_or ws i 0 < 2 ^ 64) (small_truths : t < 2 ^ 64)
+    (long : length ws ≡ SET_WORDS) (small : (i : ℕ) → get_or ws i 0 < 2 ^ 64) (small_truths : t < 2 ^ 64)
     (same : (k : ℕ) → k < COUNT → has ws k ≡ is_member set k) (behind : (k : ℕ) → COUNT ≤ k → has ws k ≡ false)
     (holds_at : (k : ℕ) → k < COUNT
     → IsTrue (is_member set k) ↔ IsTrueCondition (target_name k) (target_facts k) c)

@@ -5,5 +5,6 @@ use Rattle.former_names.proofs.rows.former_pair.Goals as goal
 
 pub returns-clause-none : goal.returns-clause-none
 returns-clause-none c =
-    subst (λ rows. IfNone c.find_fact.result ((b : RemovalReleases) → HasPair rows c.args.key.now c.args.value.now b → ⊥))
+    subst (λ rows. IfNone c.find_fact.result
+    ((b : RemovalReleases) → HasPair rows c.args.key.now c.args.value.now b → ⊥))
     c.facts.ensures c.find_fact.ensures.none
