@@ -22,7 +22,7 @@ impl<'a> Knowledge for PartialTarget<'a> {
     ghost use Rattle.known_targets.specs.Table.{target_facts};
     ghost use Rattle.known_targets.specs.Open.{open_told, IsSameButOpen, open_possible, open_sound};
 
-    // An open target allows the sets of facts that differ from the target's only in open facts.
+    // A partial target allows the sets of facts that differ from the target's only in open facts.
     ghost allows = { λ k s. IsSameButOpen (target_facts (place k.target)) (names_of k.open_keys.now) s };
 
     ghost example = { λ k. target_facts (place k.target) };
