@@ -21,13 +21,18 @@ TABLE = ROOT / "crates" / "known_targets" / "src" / "table.rt"
 PARAMETERS = {
     "&[u8]": (["const uint8_t *NAME", "size_t NAME_length"], ["NAME: *const u8", "NAME_length: usize"]),
     "&mut [u8]": (["uint8_t *NAME", "size_t NAME_length"], ["NAME: *mut u8", "NAME_length: usize"]),
-    "&mut [u64; WORDS]": (["uint64_t NAME[NEVGRASI_WORDS]"], ["NAME: *mut [u64; WORDS]"]),
+    "&mut [u64; SET_WORDS]": (["uint64_t NAME[NEVGRASI_WORDS]"], ["NAME: *mut [u64; WORDS]"]),
     "&mut Outcome": (["nevgrasi_outcome *NAME"], ["NAME: *mut Outcome"]),
     "usize": (["size_t NAME"], ["NAME: usize"]),
     "u64": (["uint64_t NAME"], ["NAME: u64"]),
     "Global": ([], []),
 }
 FOR_C, FOR_RUST = 0, 1
+
+# The names that some constants have for C and for Rust, and for C alone. Callers have compiled with those for C.
+NAMES = {"COUNT": "TARGETS", "SET_WORDS": "WORDS"}
+NAMES_OF_C = {"MAX_OPEN": "MOST_OPEN", "MAX_FLAT_BYTES": "MOST_FLAT_BYTES"}
+
 FIELDS = {"u32": "uint32_t", "bool": "bool", "usize": "size_t"}
 
 # What begins and ends the generated part of each file; around it the file is written by hand.
@@ -35,9 +40,14 @@ FRONT, END = 'extern "C" {\n#endif\n', "\n#ifdef __cplusplus\n}"
 RUST_FRONT = "pub struct Outcome {"
 
 
+def name_of_c(name):
+    """The name that a constant has for C."""
+    return f"NEVGRASI_{NAMES_OF_C.get(name, name)}"
+
+
 def comment(text, indent=""):
     """A comment of C that says what a doc comment says. The calls and constants in it get their names of C."""
-    text = re.sub(r"`(?:NEVGRASI_)?([A-Z][A-Z_]+\d*)`", r"NEVGRASI_\1", text)
+    text = re.sub(r"`(?:NEVGRASI_)?([A-Z][A-Z_]+\d*)`", lambda found: name_of_c(found[1]), text)
     return wrapped(f"/* {text}\N{NO-BREAK SPACE}*/", indent, f"{indent}   ")
 
 
@@ -51,14 +61,14 @@ def stated():
     """The codes and limits: their comments, their names and types, and what they are."""
     for file in (OUTCOME, DEPTH, EXPORTS, TABLE):
         for text, _, (name, kind, value) in documented(file.read_text(), r"pub const (\w+): (u32|usize) = ([\d_]+);"):
-            yield text, "TARGETS" if name == "COUNT" else name, kind, value.replace("_", "")
+            yield text, NAMES.get(name, name), kind, value.replace("_", "")
 
 
 def constants():
     """The codes and limits, with their comments, as lines."""
     for text, name, _, value in stated():
         yield comment(text)
-        yield f"#define NEVGRASI_{name} {value}"
+        yield f"#define {name_of_c(name)} {value}"
 
 
 def fields():

@@ -522,10 +522,10 @@ static void try_deep_flat(void) {
 }
 
 /* The texts of rows, and one number for all that the calls answer on each of them. */
-enum { THREADS = 8, MOST_TEXTS = 20000, ROOM = 1 << 18 };
-static bytes texts[MOST_TEXTS];
+enum { THREADS = 8, MAX_TEXTS = 20000, ROOM = 1 << 18 };
+static bytes texts[MAX_TEXTS];
 static size_t text_count;
-static uint64_t answers[MOST_TEXTS];
+static uint64_t answers[MAX_TEXTS];
 
 static uint64_t mixed(uint64_t sum, const void *from, size_t size) {
     for (size_t k = 0; k < size; k++) sum = (sum ^ ((const uint8_t *)from)[k]) * 0x100000001B3;
@@ -599,7 +599,7 @@ static void *ask_all(void *which) {
 static void read_texts(const char *file) {
     FILE *from = fopen(file, "rb");
     uint8_t size[4];
-    while (from && text_count < MOST_TEXTS && fread(size, 1, 4, from) == 4) {
+    while (from && text_count < MAX_TEXTS && fread(size, 1, 4, from) == 4) {
         size_t length = size[0] | size[1] << 8 | size[2] << 16 | (size_t)size[3] << 24;
         uint8_t *text = malloc(length);
         if (fread(text, 1, length, from) != length) break;

@@ -11,7 +11,7 @@ import tempfile
 import threading
 
 # So many failures are printed, and so much of each value.
-MOST_FAILURES, MOST_CHARACTERS = 100, 500
+MAX_FAILURES, MAX_CHARACTERS = 100, 500
 
 # The stack of each program that runs, by default.
 STACK = 8 * 1024 * 1024
@@ -33,7 +33,7 @@ class Tally:
             self.passed += passed
             for it in reasons:
                 self.failed += 1
-                if self.failed <= MOST_FAILURES:
+                if self.failed <= MAX_FAILURES:
                     print(f"FAILED: {it}", flush=True)
 
     def count(self, is_so, reason):
@@ -53,7 +53,7 @@ class Tally:
 def difference(got, wanted):
     """Returns what two texts have from shortly before the place where they differ."""
     start = max(0, len(os.path.commonprefix([got, wanted])) - 100)
-    cut = slice(start, start + MOST_CHARACTERS)
+    cut = slice(start, start + MAX_CHARACTERS)
     return f"{got[cut]!r}, and not {wanted[cut]!r}"
 
 

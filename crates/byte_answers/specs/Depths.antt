@@ -2,11 +2,11 @@
 use Rattle.std.specs.Prelude.{List, ℕ}
 use Rattle.std.specs.Str.{IsUtf8}
 use Rattle.cargo_platform.specs.Nesting.{IsNestedBeyond}
-use Rattle.byte_answers.specs.declared.depth.TheConstants.{MOST_OPEN}
+use Rattle.byte_answers.specs.declared.depth.TheConstants.{MAX_OPEN}
 
--- more than MOST_OPEN parentheses are open somewhere in the text
+-- more than MAX_OPEN parentheses are open somewhere in the text
 unfoldable pub IsTooDeep : List ℕ → Type 0
-IsTooDeep text = IsNestedBeyond text MOST_OPEN
+IsTooDeep text = IsNestedBeyond text MAX_OPEN
 
 -- a text that calls accept for parsing: UTF-8, and not too deep
 abbrev pub IsReadable : List ℕ → Type 0

@@ -1,6 +1,6 @@
 -- The constants that callers of other languages know, by value.
 use Rattle.std.specs.Prelude.{◌≡◌}
-use Rattle.byte_answers.specs.declared.depth.TheConstants.{MOST_OPEN, MOST_FLAT_BYTES}
+use Rattle.byte_answers.specs.declared.depth.TheConstants.{MAX_OPEN, MAX_FLAT_BYTES}
 use Rattle.byte_answers.specs.declared.outcome.TheConstants.{DONE, REFUSED, NOT_UTF8, NOT_FLAT, NO_MEMORY, UNDECIDED}
 use Rattle.byte_answers.specs.declared.outcome.TheConstants.{TOO_DEEP, UNKNOWN_TARGET}
 
@@ -12,8 +12,8 @@ AreCodes =
 
 -- the number of parentheses that may be open at once
 abbrev pub IsMostOpen : Type 0
-IsMostOpen = MOST_OPEN ≡ 10000
+IsMostOpen = MAX_OPEN ≡ 10000
 
 -- the number of bytes that a flat condition may have
 abbrev pub IsMostFlatBytes : Type 0
-IsMostFlatBytes = MOST_FLAT_BYTES ≡ 680000
+IsMostFlatBytes = MAX_FLAT_BYTES ≡ 680000

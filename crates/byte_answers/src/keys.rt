@@ -20,7 +20,7 @@ use std::alloc::Global;
 /// Writes the canonical text of a key's condition, which is parsed as the same condition.
 ///
 /// Returns `REFUSED` if the key is not a condition, with the message in the buffer and the span of the error in the
-/// key, in bytes. Returns `NOT_UTF8` if the key is not UTF-8, and `TOO_DEEP` if more than `MOST_OPEN` parentheses are
+/// key, in bytes. Returns `NOT_UTF8` if the key is not UTF-8, and `TOO_DEEP` if more than `MAX_OPEN` parentheses are
 /// open at once.
 pub fn canonical(alloc: Global, key: &[u8], out: &mut [u8]) -> Outcome
     // `DONE` is returned with the canonical text of the key's condition.
@@ -30,7 +30,7 @@ pub fn canonical(alloc: Global, key: &[u8], out: &mut [u8]) -> Outcome
     ensures refused { result.code ≡ REFUSED → IsRefusal key.now result out.old out.new }
     ensures spelled { result.code ≡ REFUSED → (p : Condition) → IsConditionText key.now p → ⊥ }
     // `NOT_UTF8` is returned exactly for a key that is not UTF-8, and `TOO_DEEP` exactly for any other key with more
-    // than `MOST_OPEN` parentheses open at once.
+    // than `MAX_OPEN` parentheses open at once.
     ensures not_utf8 { result.code ≡ NOT_UTF8 ↔ (IsUtf8 key.now → ⊥) }
     ensures too_deep { result.code ≡ TOO_DEEP ↔ (IsUtf8 key.now × IsTooDeep key.now) }
     // Nothing other than the promised texts is written.
@@ -63,7 +63,7 @@ pub fn flatten_key(alloc: Global, key: &[u8], out: &mut [u8]) -> Outcome
     ensures refused { result.code ≡ REFUSED → IsRefusal key.now result out.old out.new }
     ensures spelled { result.code ≡ REFUSED → (p : Condition) → IsConditionText key.now p → ⊥ }
     // `NOT_UTF8` is returned exactly for a key that is not UTF-8, and `TOO_DEEP` exactly for any other key with more
-    // than `MOST_OPEN` parentheses open at once.
+    // than `MAX_OPEN` parentheses open at once.
     ensures not_utf8 { result.code ≡ NOT_UTF8 ↔ (IsUtf8 key.now → ⊥) }
     ensures too_deep { result.code ≡ TOO_DEEP ↔ (IsUtf8 key.now × IsTooDeep key.now) }
     // Nothing other than the promised texts is written.
@@ -124,7 +124,7 @@ pub fn fault(alloc: Global, key: &[u8], out: &mut [u8]) -> Outcome
     ensures refused { result.code ≡ REFUSED → IsShownRefusal key.now result out.old out.new }
     ensures spelled { result.code ≡ REFUSED → (p : Condition) → IsConditionText key.now p → ⊥ }
     // `NOT_UTF8` is returned exactly for a key that is not UTF-8, and `TOO_DEEP` exactly for any other key with more
-    // than `MOST_OPEN` parentheses open at once.
+    // than `MAX_OPEN` parentheses open at once.
     ensures not_utf8 { result.code ≡ NOT_UTF8 ↔ (IsUtf8 key.now → ⊥) }
     ensures too_deep { result.code ≡ TOO_DEEP ↔ (IsUtf8 key.now × IsTooDeep key.now) }
     // Nothing other than the promised texts is written.

@@ -18,13 +18,13 @@ use crate::outcome::{
     DONE, NO_MEMORY, NOT_UTF8, Outcome, REFUSED, TOO_DEEP, UNKNOWN_TARGET, write,
 };
 use crate::reading::{read_condition, read_text};
-use known_targets::{COUNT, KnownTarget, WORDS, matching, names};
+use known_targets::{COUNT, KnownTarget, SET_WORDS, matching, names};
 use std::alloc::{AllocError, Global};
 
 /// Sets `words` to the known targets on which a key is true: bit `k % 64` of word `k / 64` is the target at index `k`.
 ///
 /// Rejects the same keys as `canonical`, with the same codes, and then leaves the words unchanged.
-pub fn targets(alloc: Global, key: &[u8], words: &mut [u64; WORDS], out: &mut [u8]) -> Outcome
+pub fn targets(alloc: Global, key: &[u8], words: &mut [u64; SET_WORDS], out: &mut [u8]) -> Outcome
     // `DONE` is returned with exactly the known targets on which the key's condition is true.
     ensures done { result.code ≡ DONE → AreTargets key.now words.new }
     // `REFUSED` is returned only for a key that is not a condition, with the message and the span of the error in the
@@ -32,7 +32,7 @@ pub fn targets(alloc: Global, key: &[u8], words: &mut [u64; WORDS], out: &mut [u
     ensures refused { result.code ≡ REFUSED → IsRefusal key.now result out.old out.new }
     ensures spelled { result.code ≡ REFUSED → (p : Condition) → IsConditionText key.now p → ⊥ }
     // `NOT_UTF8` is returned exactly for a key that is not UTF-8, and `TOO_DEEP` exactly for any other key with more
-    // than `MOST_OPEN` parentheses open at once.
+    // than `MAX_OPEN` parentheses open at once.
     ensures not_utf8 { result.code ≡ NOT_UTF8 ↔ (IsUtf8 key.now → ⊥) }
     ensures too_deep { result.code ≡ TOO_DEEP ↔ (IsUtf8 key.now × IsTooDeep key.now) }
     // Nothing other than the promised texts is written.

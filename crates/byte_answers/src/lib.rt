@@ -25,7 +25,7 @@ mod truths;
 mod unflat;
 
 pub use batches::match_keys;
-pub use depth::{MOST_FLAT_BYTES, MOST_OPEN, is_too_deep};
+pub use depth::{MAX_FLAT_BYTES, MAX_OPEN, is_too_deep};
 pub use keys::{canonical, fault, flatten_key};
 pub use known::{facts, target_name, targets};
 pub use matching::matches;

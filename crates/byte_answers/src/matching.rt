@@ -147,7 +147,7 @@ pub fn matches(alloc: Global, key: &[u8], name: &[u8], lines: &[u8], out: &mut [
     ensures not_utf8_key { result.code ≡ NOT_UTF8 → result.argument ≡ 0 → IsUtf8 key.now → ⊥ }
     ensures not_utf8_name { result.code ≡ NOT_UTF8 → result.argument ≡ 1 → IsUtf8 name.now → ⊥ }
     ensures not_utf8_lines { result.code ≡ NOT_UTF8 → result.argument ≡ 2 → IsUtf8 lines.now → ⊥ }
-    // `TOO_DEEP` is returned exactly for a key that is UTF-8 with more than `MOST_OPEN` parentheses open at once;
+    // `TOO_DEEP` is returned exactly for a key that is UTF-8 with more than `MAX_OPEN` parentheses open at once;
     // `argument` is 0.
     ensures too_deep { result.code ≡ TOO_DEEP ↔ (IsUtf8 key.now × IsTooDeep key.now) }
     ensures too_deep_key { result.code ≡ TOO_DEEP → result.argument ≡ 0 }

@@ -15,7 +15,7 @@ pub const NOT_FLAT: u32 = 3;
 pub const NO_MEMORY: u32 = 4;
 /// The budget is used up.
 pub const UNDECIDED: u32 = 5;
-/// More than `MOST_OPEN` parentheses are open at once, or a flat condition has more than `MOST_FLAT_BYTES` bytes.
+/// More than `MAX_OPEN` parentheses are open at once, or a flat condition has more than `MAX_FLAT_BYTES` bytes.
 pub const TOO_DEEP: u32 = 6;
 /// No known target has this name or index.
 pub const UNKNOWN_TARGET: u32 = 7;

@@ -6,7 +6,7 @@ ghost use Rattle.cargo_platform.specs.Trees.{Condition, value_of, condition_of};
 ghost use Rattle.cargo_platform.specs.Facts.{IsTrueCondition};
 ghost use Rattle.cargo_platform.specs.Platforms.{IsConditionText};
 ghost use Rattle.exact_answers.specs.Asking.{NeedsMore};
-ghost use Rattle.exact_answers.specs.Targets.{SaysMustSelect, SaysCanSelect, ForEach, asked_trees};
+ghost use Rattle.exact_answers.specs.Targets.{SaysValidity, SaysSatisfiability, ForEach, asked_trees};
 ghost use Rattle.byte_answers.specs.LengthPrefixed.{facts_with_lengths};
 ghost use Rattle.byte_answers.specs.Comparisons.{Stands, Fails, name_with_length, IsWrittenExample, HasExample};
 ghost use Rattle.byte_answers.specs.Comparisons.{SaysRelated, AreRelated, SaysPossible, IsPossibleKey};
@@ -20,7 +20,7 @@ use crate::outcome::{DONE, NO_MEMORY, NOT_UTF8, Outcome, REFUSED, TOO_DEEP, UNDE
 use crate::reading::read_condition;
 use cargo_platform::{CfgExpr, Platform};
 use exact_answers::{
-    CanSelect, FactConstraints, MustSelect, ONE_VALUED, PossibleTarget, can_hold_platform,
+    FactConstraints, ONE_VALUED, PossibleTarget, Satisfiability, Validity, can_hold_platform,
     equivalent_platform, exclude_platform, family_rule, implies_platform,
 };
 use std::alloc::{AllocError, Global};
@@ -81,8 +81,8 @@ fn ask<'a>(
     b: &'a Platform,
     known: &'a FactConstraints<'a>,
     budget: u64,
-) -> Result<MustSelect, AllocError>
-    ensures { IfOk result (λ r. SaysMustSelect r known.now (condition_of a.now ∷ condition_of b.now ∷ []) budget
+) -> Result<Validity, AllocError>
+    ensures { IfOk result (λ r. SaysValidity r known.now (condition_of a.now ∷ condition_of b.now ∷ []) budget
         (λ name s. Fails relation
         (IsTrueCondition name s (condition_of a.now)) (IsTrueCondition name s (condition_of b.now)))
         (λ name s. Stands relation
@@ -123,9 +123,9 @@ fn related_by<'a>(
     ensures codes { IsTrue (result.code == DONE || result.code == UNDECIDED || result.code == NO_MEMORY) }
 {
     match ask(alloc, relation, a, b, known, budget) {
-        Ok(MustSelect::Yes) => Outcome::answered(true),
-        Ok(MustSelect::No(target)) => with_example(alloc, false, &target, out),
-        Ok(MustSelect::Undecided) => Outcome::ended(UNDECIDED, 0),
+        Ok(Validity::Yes) => Outcome::answered(true),
+        Ok(Validity::No(target)) => with_example(alloc, false, &target, out),
+        Ok(Validity::Undecided) => Outcome::ended(UNDECIDED, 0),
         Err(_) => Outcome::ended(NO_MEMORY, 0),
     }
 }
@@ -256,9 +256,9 @@ fn possible_by<'a>(
     ensures codes { IsTrue (result.code == DONE || result.code == UNDECIDED || result.code == NO_MEMORY) }
 {
     match can_hold_platform(alloc, platform, known, budget) {
-        Ok(CanSelect::Yes(target)) => with_example(alloc, true, &target, out),
-        Ok(CanSelect::No) => Outcome::answered(false),
-        Ok(CanSelect::Undecided) => Outcome::ended(UNDECIDED, 0),
+        Ok(Satisfiability::Yes(target)) => with_example(alloc, true, &target, out),
+        Ok(Satisfiability::No) => Outcome::answered(false),
+        Ok(Satisfiability::Undecided) => Outcome::ended(UNDECIDED, 0),
         Err(_) => Outcome::ended(NO_MEMORY, 0),
     }
 }
@@ -300,7 +300,7 @@ pub fn can_hold(alloc: Global, key: &[u8], budget: u64, out: &mut [u8]) -> Outco
     ensures refused { result.code ≡ REFUSED → IsRefusal key.now result out.old out.new }
     ensures spelled { result.code ≡ REFUSED → (p : Condition) → IsConditionText key.now p → ⊥ }
     // `NOT_UTF8` is returned exactly for a key that is not UTF-8, and `TOO_DEEP` exactly for any other key with more
-    // than `MOST_OPEN` parentheses open at once.
+    // than `MAX_OPEN` parentheses open at once.
     ensures not_utf8 { result.code ≡ NOT_UTF8 ↔ (IsUtf8 key.now → ⊥) }
     ensures too_deep { result.code ≡ TOO_DEEP ↔ (IsUtf8 key.now × IsTooDeep key.now) }
     // Nothing other than the promised texts is written.

@@ -7,7 +7,7 @@ ghost use Rattle.byte_answers.specs.Flat.{flat_condition, IsFlatForm, AreFlatFac
 ghost use Rattle.byte_answers.specs.Answers.{IsFlatMatch, IsPrint};
 ghost use Rattle.byte_answers.specs.Outcomes.{HasNoAnswer, HasNoSpan, IsSilent, ends_flat_call, ends_flat_print};
 
-use crate::depth::MOST_FLAT_BYTES;
+use crate::depth::MAX_FLAT_BYTES;
 use crate::outcome::{DONE, NO_MEMORY, NOT_FLAT, NOT_UTF8, Outcome, TOO_DEEP, write};
 use crate::reading::read_text;
 use crate::unflat::{unflat, unflat_facts};
@@ -18,8 +18,8 @@ use std::alloc::Global;
 fn read_flat(alloc: Global, flat: &[u8]) -> Result<Platform, Outcome>
     ensures condition { IfOk result (λ p. flat_condition (condition_of p) ≡ flat.now) }
     ensures not_flat { IfErr result (λ o. o.code ≡ NOT_FLAT → IsFlatForm flat.now → ⊥) }
-    ensures fits { IfOk result (λ _. length flat.now ≤ MOST_FLAT_BYTES) }
-    ensures too_deep { IfErr result (λ o. o.code ≡ TOO_DEEP ↔ MOST_FLAT_BYTES < length flat.now) }
+    ensures fits { IfOk result (λ _. length flat.now ≤ MAX_FLAT_BYTES) }
+    ensures too_deep { IfErr result (λ o. o.code ≡ TOO_DEEP ↔ MAX_FLAT_BYTES < length flat.now) }
     ensures argument { IfErr result (λ o. o.argument ≡ 0) }
     ensures silent { IfErr result (λ o. o.needed ≡ 0) }
     ensures holds { IfErr result (λ o. HasNoAnswer o) }
@@ -27,7 +27,7 @@ fn read_flat(alloc: Global, flat: &[u8]) -> Result<Platform, Outcome>
     ensures codes { IfErr result
         (λ o. IsTrue (o.code == TOO_DEEP || o.code == NOT_FLAT || o.code == NO_MEMORY)) }
 {
-    if MOST_FLAT_BYTES < flat.len() {
+    if MAX_FLAT_BYTES < flat.len() {
         return Err(Outcome::ended(TOO_DEEP, 0));
     }
     match unflat(alloc, flat) {
@@ -40,14 +40,14 @@ fn read_flat(alloc: Global, flat: &[u8]) -> Result<Platform, Outcome>
 /// Writes the canonical text of a flat condition.
 ///
 /// Returns `NOT_FLAT` if the bytes are the flat form of no condition, and `TOO_DEEP` if there are more than
-/// `MOST_FLAT_BYTES`.
+/// `MAX_FLAT_BYTES`.
 pub fn flat_print(alloc: Global, flat: &[u8], out: &mut [u8]) -> Outcome
     // `DONE` is returned with the canonical text of the condition whose flat form the bytes are.
     ensures done { result.code ≡ DONE → IsPrint flat.now result.needed out.old out.new }
     // `NOT_FLAT` is returned only for bytes that are the flat form of no condition.
     ensures not_flat { result.code ≡ NOT_FLAT → IsFlatForm flat.now → ⊥ }
-    // `TOO_DEEP` is returned exactly for a flat condition of more than `MOST_FLAT_BYTES` bytes.
-    ensures too_deep { result.code ≡ TOO_DEEP ↔ MOST_FLAT_BYTES < length flat.now }
+    // `TOO_DEEP` is returned exactly for a flat condition of more than `MAX_FLAT_BYTES` bytes.
+    ensures too_deep { result.code ≡ TOO_DEEP ↔ MAX_FLAT_BYTES < length flat.now }
     // Nothing other than the promised texts is written.
     ensures silent { result.code ≢ DONE → IsSilent result out.old out.new }
     // `holds` and `is_named` are false.
@@ -70,7 +70,7 @@ pub fn flat_print(alloc: Global, flat: &[u8], out: &mut [u8]) -> Outcome
 /// Decides whether a flat condition is true on a target with this name and these flat facts.
 ///
 /// `holds` is the answer. Returns `NOT_FLAT` if the bytes are the flat form of no condition (`argument` 0) or of no
-/// facts (`argument` 2), and `TOO_DEEP` if the condition has more than `MOST_FLAT_BYTES` bytes.
+/// facts (`argument` 2), and `TOO_DEEP` if the condition has more than `MAX_FLAT_BYTES` bytes.
 pub fn flat_matches(alloc: Global, flat: &[u8], name: &[u8], flat_facts: &[u8]) -> Outcome
     // `DONE` is returned with whether the condition whose flat form the bytes are is true for the name and the flat
     // facts.
@@ -89,8 +89,8 @@ pub fn flat_matches(alloc: Global, flat: &[u8], name: &[u8], flat_facts: &[u8]) 
     ensures silent { result.needed ≡ 0 }
     // `DONE` is returned only for a name that is UTF-8.
     ensures utf8 { result.code ≡ DONE → IsUtf8 name.now }
-    // `TOO_DEEP` is returned exactly for a flat condition of more than `MOST_FLAT_BYTES` bytes.
-    ensures too_deep { result.code ≡ TOO_DEEP ↔ MOST_FLAT_BYTES < length flat.now }
+    // `TOO_DEEP` is returned exactly for a flat condition of more than `MAX_FLAT_BYTES` bytes.
+    ensures too_deep { result.code ≡ TOO_DEEP ↔ MAX_FLAT_BYTES < length flat.now }
     // Unless the code is `DONE`, `holds` and `is_named` are false.
     ensures holds { result.code ≢ DONE → HasNoAnswer result }
     // No example has a name.

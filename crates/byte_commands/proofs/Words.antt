@@ -5,7 +5,7 @@ use Rattle.std.specs.Prelude.{bytes_eq, if◌then◌else◌}
 use Rattle.std.proofs.lemmas.List.Concat.{flat_map-append}
 use Rattle.std.proofs.lemmas.List.{length-append}
 use Rattle.std.specs.List.{AllByRecursion}
-use Rattle.byte_commands.specs.declared.call_input.TheConstants.{PROGRAM, INPUT}
+use Rattle.byte_commands.specs.declared.call_input.TheConstants.{PROGRAM, STDIN_PATH}
 use Rattle.byte_commands.specs.CallInput.{ended_by_nul, HasNoNul, Entry, IsEntry, entry_bytes, contents_in, input_in}
 
 all_more : {X : Type 0} (P : X → Type 0) (xs : List X) (x : X) → AllByRecursion P xs → P x
@@ -42,23 +42,23 @@ AreFilesTo bytes left files input =
     × (files ≡ contents_in entries) × (input ≡ input_in [] entries))
 
 contents_more : (es : List Entry) (e : Entry)
-    → contents_in (es ++ e ∷ []) ≡ contents_in es ++ (if bytes_eq e.name INPUT.now then [] else e.content ∷ [])
-contents_more [] e = append-nil (if bytes_eq e.name INPUT.now then [] else e.content ∷ [])
+    → contents_in (es ++ e ∷ []) ≡ contents_in es ++ (if bytes_eq e.name STDIN_PATH.now then [] else e.content ∷ [])
+contents_more [] e = append-nil (if bytes_eq e.name STDIN_PATH.now then [] else e.content ∷ [])
 contents_more (x ∷ xs) e =
-    let first : List (List ℕ) = if bytes_eq x.name INPUT.now then [] else x.content ∷ [] in
+    let first : List (List ℕ) = if bytes_eq x.name STDIN_PATH.now then [] else x.content ∷ [] in
     ap (λ (z : List (List ℕ)). first ++ z) (contents_more xs e)
-    ∙ sym (append_assoc first (contents_in xs) (if bytes_eq e.name INPUT.now then [] else e.content ∷ []))
+    ∙ sym (append_assoc first (contents_in xs) (if bytes_eq e.name STDIN_PATH.now then [] else e.content ∷ []))
 
 input_more : (before : List ℕ) (es : List Entry) (e : Entry) → input_in before (es ++ e ∷ [])
-    ≡ (if bytes_eq e.name INPUT.now then e.content else input_in before es)
+    ≡ (if bytes_eq e.name STDIN_PATH.now then e.content else input_in before es)
 input_more before [] e = refl
-input_more before (x ∷ xs) e = input_more (if bytes_eq x.name INPUT.now then x.content else before) xs e
+input_more before (x ∷ xs) e = input_more (if bytes_eq x.name STDIN_PATH.now then x.content else before) xs e
 
 -- one more file is read
 pub one_file : (bytes left after name input more_input : List ℕ) (files more : List (List ℕ)) (e : Entry)
     → AreFilesTo bytes left files input → left ≡ entry_bytes e ++ after → IsEntry e → name ≡ e.name
-    → more ≡ files ++ (if bytes_eq name INPUT.now then [] else e.content ∷ [])
-    → more_input ≡ (if bytes_eq name INPUT.now then e.content else input)
+    → more ≡ files ++ (if bytes_eq name STDIN_PATH.now then [] else e.content ∷ [])
+    → more_input ≡ (if bytes_eq name STDIN_PATH.now then e.content else input)
     → AreFilesTo bytes after more more_input
 one_file bytes left after name input more_input files more e (es, (whole, entries, are, is)) first entry named added set =
     let read : List ℕ = flat_map entry_bytes es in (
@@ -71,10 +71,10 @@ one_file bytes left after name input more_input files more e (es, (whole, entrie
             ∙ ap (λ (z : List ℕ). z ++ after) (sym (flat_map-append entry_bytes es (e ∷ []))),
         all_more IsEntry es e entries entry,
         added
-            ∙ (λ i. are i ++ (if bytes_eq (named i) INPUT.now then [] else e.content ∷ []))
+            ∙ (λ i. are i ++ (if bytes_eq (named i) STDIN_PATH.now then [] else e.content ∷ []))
             ∙ sym (contents_more es e),
         set
-            ∙ (λ i. if bytes_eq (named i) INPUT.now then e.content else is i)
+            ∙ (λ i. if bytes_eq (named i) STDIN_PATH.now then e.content else is i)
             ∙ sym (input_more [] es e),
       ),
     )

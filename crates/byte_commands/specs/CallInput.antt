@@ -4,7 +4,7 @@ use Rattle.memory_files.specs.declared.GivenFile.{GivenFile}
 use Rattle.byte_commands.specs.declared.call_input.First.{First}
 use Rattle.std.specs.List.{AllByRecursion}
 use Rattle.std.specs.Str.Parse.{digits_value, without_leading_plus}
-use Rattle.byte_commands.specs.declared.call_input.TheConstants.{PROGRAM, INPUT}
+use Rattle.byte_commands.specs.declared.call_input.TheConstants.{PROGRAM, STDIN_PATH}
 
 -- a text and a NUL after it
 abbrev pub ended_by_nul : List ℕ → List ℕ
@@ -40,12 +40,12 @@ entry_of f = record { name = f.name.now; digits = f.digits.now; content = f.cont
 -- the bytes of the entries that are files and not standard input
 abbrev pub contents_in : List Entry → List (List ℕ)
 contents_in [] = []
-contents_in (e ∷ es) = (if bytes_eq e.name INPUT.now then [] else e.content ∷ []) ++ contents_in es
+contents_in (e ∷ es) = (if bytes_eq e.name STDIN_PATH.now then [] else e.content ∷ []) ++ contents_in es
 
 -- standard input: the bytes of the last entry that is standard input
 abbrev pub input_in : List ℕ → List Entry → List ℕ
 input_in before [] = before
-input_in before (e ∷ es) = input_in (if bytes_eq e.name INPUT.now then e.content else before) es
+input_in before (e ∷ es) = input_in (if bytes_eq e.name STDIN_PATH.now then e.content else before) es
 
 abbrev pub contents_of : List GivenFile → List (List ℕ)
 contents_of files = map (λ f. f.bytes.now) files

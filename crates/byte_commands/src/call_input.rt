@@ -10,7 +10,7 @@ use std::alloc::{AllocError, Global};
 use std::str;
 
 /// The name under which a caller hands standard input over.
-const INPUT: &str = "-";
+const STDIN_PATH: &str = "-";
 
 /// The name of the program, which the first argument is.
 const PROGRAM: &str = "manifest_check";
@@ -136,11 +136,11 @@ impl<'a> CallInput<'a> {
     fn add(&mut self, alloc: Global, name: &str, bytes: &'a [u8]) -> Result<(), AllocError>
         ensures arguments { OnOk result (self.new.arguments ≡ self.old.arguments) }
         ensures files { OnOk result (contents_of self.new.files.items
-            ≡ contents_of self.old.files.items ++ (if bytes_eq name.now INPUT.now then [] else bytes.now ∷ [])) }
+            ≡ contents_of self.old.files.items ++ (if bytes_eq name.now STDIN_PATH.now then [] else bytes.now ∷ [])) }
         ensures input { OnOk result (self.new.input.now
-            ≡ (if bytes_eq name.now INPUT.now then bytes.now else self.old.input.now)) }
+            ≡ (if bytes_eq name.now STDIN_PATH.now then bytes.now else self.old.input.now)) }
     {
-        if name == INPUT {
+        if name == STDIN_PATH {
             self.input = bytes;
             return Ok(());
         }

@@ -41,7 +41,7 @@ fn host_of(name: &str) -> Result<Option<KnownTarget>, &str>
 /// The document is the output of `cargo metadata --format-version 1`. Builds run on the host, a known target with this
 /// name, or on the target itself if the name is empty. Returns `REFUSED` if the document cannot be used, with the
 /// reason in the buffer, and `UNKNOWN_TARGET` if no known target has the host's name. With `NOT_UTF8`, `argument` is
-/// the index of the text that is not UTF-8. Returns `TOO_DEEP` if a condition has more than `MOST_OPEN` parentheses
+/// the index of the text that is not UTF-8. Returns `TOO_DEEP` if a condition has more than `MAX_OPEN` parentheses
 /// open at once.
 pub fn graph(alloc: Global, document: &[u8], host: &[u8], out: &mut [u8]) -> Outcome
     // With `DONE`, the document is a graph, and no condition is too deep.

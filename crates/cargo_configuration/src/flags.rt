@@ -2,7 +2,7 @@
 //! `build.rustflags`, `target.<triple>.rustflags` and `target.<cfg>.rustflags`).
 
 use crate::environment::variable;
-use crate::includes::{MOST_FILES, UnreadFiles};
+use crate::includes::{MAX_FILES, UnreadFiles};
 use crate::sources::{Source, are_joined};
 use key_answers::answer::QueryError;
 use std::alloc::{AllocError, Global};
@@ -239,7 +239,7 @@ fn file_flags<R: Files + Input + Env + AllocGlobal>(
     let alloc = rt.alloc();
     let mut found = Vec::new(alloc);
     let mut files = UnreadFiles::current(rt)?;
-    for _ in 0..MOST_FILES {
+    for _ in 0..MAX_FILES {
         let Some(configuration) = files.read_next(rt, limit)? else {
             return Ok(found);
         };

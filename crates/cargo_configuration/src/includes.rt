@@ -11,7 +11,7 @@ use toml::{Table, Value};
 use workspaces::{folder_of, is_file, join_path, text_in};
 
 /// The maximum number of configuration files that are read.
-pub const MOST_FILES: usize = 1024;
+pub const MAX_FILES: usize = 1024;
 
 /// Configuration files that are not read yet.
 #[derive(Drop)]

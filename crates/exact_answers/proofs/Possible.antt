@@ -9,7 +9,7 @@ use Rattle.cargo_platform.specs.Facts.{Pair, pair_cmp}
 use Rattle.partial_facts.specs.Partly.{is_named, told_by}
 use Rattle.exact_answers.specs.Possible.{is_single}
 use Rattle.exact_answers.specs.Asking.{is_pair}
-use Rattle.exact_answers.specs.Possible.{is_value, has_value}
+use Rattle.exact_answers.specs.Possible.{has_key, has_value}
 use Rattle.exact_answers.specs.Inside.Paths.{Turn, Base, IsOver, takes, refuses, taken}
 use Rattle.exact_answers.specs.Inside.Paths.{facts_on, set_on, told_on, WereOpen}
 use Rattle.exact_answers.proofs.Telling.{or_cases, never_both, same, among, finds, on_path, or_true}
@@ -82,7 +82,7 @@ module _ (k : Base) where
   skipped_pair d ds h = ap (λ b. (if b then d.pair ∷ taken ds else taken ds) ++ k.listed) h
 
   -- a pair of the key of another one is a value of it
-  value_of_key : (p q : Pair) → is_some q.value ≡ true → p.name ≡ q.name → is_value p.name q ≡ true
+  value_of_key : (p q : Pair) → is_some q.value ≡ true → p.name ≡ q.name → has_key p.name q ≡ true
   value_of_key p q some e =
       and_so (is_some q.value) (bytes_eq q.name p.name) some ((bytes_eq-Decides q.name p.name).1 (sym e))
 
@@ -103,12 +103,12 @@ module _ (k : Base) where
       (λ q_new. inl (same p d.pair p_new ∙ sym (same q d.pair q_new)))
       (λ q_old. absurd (open_alone ds p
       (ap (told_on k ds) (same p d.pair p_new) ∙ was_open) single
-      (finds (is_value p.name) (facts_on k ds) q q_old (value_of_key p q some e)))))
+      (finds (has_key p.name) (facts_on k ds) q q_old (value_of_key p q some e)))))
       (λ p_old. or_cases P (is_pair q d.pair) (list_any (is_pair q) (facts_on k ds))
       (sym (taken_pair d ds h (is_pair q)) ∙ other)
       (λ q_new. absurd (open_alone ds q
       (ap (told_on k ds) (same q d.pair q_new) ∙ was_open) (single_too p q single some e)
-      (finds (is_value q.name) (facts_on k ds) p p_old
+      (finds (has_key q.name) (facts_on k ds) p p_old
       (value_of_key q p (second_true (is_named p.name k.single) (is_some p.value) single) (sym e)))))
       (λ q_old. one p q single some e p_old q_old))
 

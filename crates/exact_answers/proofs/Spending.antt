@@ -10,7 +10,7 @@ use Rattle.cargo_platform.specs.Facts.{Pair, pair_cmp}
 use Rattle.cargo_platform.specs.Trees.{Tree, Trees, none, tree, tree_of}
 use Rattle.partial_facts.specs.Partly.{is_named, told_by}
 use Rattle.exact_answers.specs.Possible.{is_single, is_open}
-use Rattle.exact_answers.specs.Possible.{is_value, has_value}
+use Rattle.exact_answers.specs.Possible.{has_key, has_value}
 use Rattle.exact_answers.specs.Inside.Paths.{Turn, Base, takes, refuses, facts_on, set_on}
 use Rattle.exact_answers.specs.Inside.Paths.{rules_out, is_refuted, told_on, WereOpen, turned, base_of}
 use Rattle.exact_answers.specs.Asking.{is_pair, asks, some_asks, one_if, open_count, HasAll, NeedsMore}
@@ -74,7 +74,7 @@ module _ (k : Base) where
       or_false (is_named p.name k.complete) (is_single k.single p && has_value p.name (facts_on k ds))
       (left_false (is_named p.name k.complete) _ h)
       (and_less (is_single k.single p) (has_value p.name (facts_on k (d ∷ ds))) (has_value p.name (facts_on k ds))
-      (more_facts (is_value p.name) d ds)
+      (more_facts (has_key p.name) d ds)
       (right_false (is_named p.name k.complete) _ h))
 
   pub was_open : (d : Turn) (ds : List Turn) (p : Pair) → is_none (told_on k (d ∷ ds) p) ≡ true

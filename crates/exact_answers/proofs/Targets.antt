@@ -12,7 +12,7 @@ use Rattle.cargo_platform.specs.Facts.{Pair, FactSet, pair_of, fact_set, truth, 
 use Rattle.exact_answers.specs.Asking.{asks, some_asks, NeedsMore}
 use Rattle.exact_answers.specs.Answers.{IsFactOfExample, OverEach}
 use Rattle.exact_answers.specs.Targets.{IsOtherName, MayHaveName, IsExample, asked_tree, asked_trees}
-use Rattle.exact_answers.specs.Targets.{SaysCanSelect, SaysMustSelect}
+use Rattle.exact_answers.specs.Targets.{SaysSatisfiability, SaysValidity}
 use Rattle.exact_answers.specs.Inside.Searches.{SaysFound}
 use Rattle.exact_answers.specs.Inside.Targets.{tree_under, is_name_of, Wanted, wants, conditions, MetUnder}
 use Rattle.exact_answers.specs.Inside.Targets.{MissedUnder, SaysFoundUnder, with_name, or_undecided, as_can, as_must}
@@ -23,8 +23,8 @@ use Rattle.exact_answers.specs.declared.search.Found.TheVariants as found
 use Rattle.exact_answers.specs.declared.platforms.FoundTarget.{FoundTarget}
 use Rattle.exact_answers.specs.declared.platforms.FoundTarget.TheVariants as one
 use Rattle.exact_answers.specs.declared.platforms.PossibleTarget.{PossibleTarget}
-use Rattle.exact_answers.specs.declared.platforms.CanSelect.{CanSelect}
-use Rattle.exact_answers.specs.declared.platforms.MustSelect.{MustSelect}
+use Rattle.exact_answers.specs.declared.platforms.Satisfiability.{Satisfiability}
+use Rattle.exact_answers.specs.declared.platforms.Validity.{Validity}
 use Rattle.exact_answers.proofs.Telling.{is_false}
 
 by_cases : (P : Type 0) (b : Bool) → (b ≡ true → P) → (b ≡ false → P) → P
@@ -204,7 +204,7 @@ example_by t k cs ds P Q may each f h =
 
 pub can_says : (k : FactConstraints) (c : Condition) (budget : ℕ) (r : FoundTarget)
     → SaysTarget r (wants k c true (Expression True) true) (λ name. Unit {0}) budget
-    → SaysCanSelect (as_can r) k (c ∷ []) budget (λ name s. IsTrueCondition name s c)
+    → SaysSatisfiability (as_can r) k (c ∷ []) budget (λ name s. IsTrueCondition name s c)
     (λ name s. IsTrueCondition name s c → ⊥)
 can_says k c budget (one.Target t) h =
     example_by t k (c ∷ Expression True ∷ []) (c ∷ [])
@@ -217,7 +217,7 @@ can_says k c budget one.Undecided h = h
 
 pub always_says : (k : FactConstraints) (c : Condition) (budget : ℕ) (r : FoundTarget)
     → SaysTarget r (wants k c false (Expression True) true) (λ name. Unit {0}) budget
-    → SaysMustSelect (as_must r) k (c ∷ []) budget (λ name s. IsTrueCondition name s c → ⊥)
+    → SaysValidity (as_must r) k (c ∷ []) budget (λ name s. IsTrueCondition name s c → ⊥)
     (λ name s. IsTrueCondition name s c)
 always_says k c budget (one.Target t) h =
     example_by t k (c ∷ Expression True ∷ []) (c ∷ [])
@@ -231,7 +231,7 @@ always_says k c budget one.Undecided h = h
 
 pub implies_says : (k : FactConstraints) (a b : Condition) (budget : ℕ) (r : FoundTarget)
     → SaysTarget r (wants k a true b false) (λ name. Unit {0}) budget
-    → SaysMustSelect (as_must r) k (a ∷ b ∷ []) budget
+    → SaysValidity (as_must r) k (a ∷ b ∷ []) budget
     (λ name s. IsTrueCondition name s a × (IsTrueCondition name s b → ⊥))
     (λ name s. IsTrueCondition name s a → IsTrueCondition name s b)
 implies_says k a b budget (one.Target t) h =
@@ -244,7 +244,7 @@ implies_says k a b budget one.Undecided h = h
 
 pub exclude_says : (k : FactConstraints) (a b : Condition) (budget : ℕ) (r : FoundTarget)
     → SaysTarget r (wants k a true b true) (λ name. Unit {0}) budget
-    → SaysMustSelect (as_must r) k (a ∷ b ∷ []) budget
+    → SaysValidity (as_must r) k (a ∷ b ∷ []) budget
     (λ name s. IsTrueCondition name s a × IsTrueCondition name s b)
     (λ name s. IsTrueCondition name s a → IsTrueCondition name s b → ⊥)
 exclude_says k a b budget (one.Target t) h =
@@ -283,7 +283,7 @@ second_differs k a b t h =
 pub second_says : (k : FactConstraints) (a b : Condition) (budget : ℕ) (r : FoundTarget)
     → ((name : List ℕ) → Unit {0} → OverEach k (λ s. MissedUnder (wants k a true b false) (Some name) s))
     → SaysTarget r (wants k a false b true) (λ name. Unit {0}) budget
-    → SaysMustSelect (as_must r) k (a ∷ b ∷ []) budget (λ name s. Differs a b name s) (λ name s. IsSame a b name s)
+    → SaysValidity (as_must r) k (a ∷ b ∷ []) budget (λ name s. Differs a b name s) (λ name s. IsSame a b name s)
 second_says k a b budget (one.Target t) first h = second_differs k a b t h
 second_says k a b budget one.Nothing first h = λ name s allows. (
   λ is. is_true b name s (first name tt s allows (true_is a name s is)),
@@ -295,7 +295,7 @@ second_says k a b budget one.Undecided first h = h
 pub undecided_second : (k : FactConstraints) (a b : Condition) (budget : ℕ) (r : FoundTarget)
     → NeedsMore k (asked_trees (a ∷ b ∷ [])) budget
     → SaysTarget r (wants k a false b true) (λ name. Unit {0}) budget
-    → SaysMustSelect (as_must (or_undecided r)) k (a ∷ b ∷ []) budget (λ name s. Differs a b name s)
+    → SaysValidity (as_must (or_undecided r)) k (a ∷ b ∷ []) budget (λ name s. Differs a b name s)
     (λ name s. IsSame a b name s)
 undecided_second k a b budget (one.Target t) more h = second_differs k a b t h
 undecided_second k a b budget one.Nothing more h = more
@@ -303,15 +303,15 @@ undecided_second k a b budget one.Undecided more h = more
 
 -- ---- the answer as the program makes it
 
-pub can_by : (m : CanSelect) (r : FoundTarget) (k : FactConstraints) (cs : List Condition) (budget : ℕ)
-    (P Q : List ℕ → FactSet → Type 0) → m ≡ as_can r → SaysCanSelect (as_can r) k cs budget P Q
-    → SaysCanSelect m k cs budget P Q
-can_by m r k cs budget P Q e h = subst (λ x. SaysCanSelect x k cs budget P Q) (sym e) h
+pub can_by : (m : Satisfiability) (r : FoundTarget) (k : FactConstraints) (cs : List Condition) (budget : ℕ)
+    (P Q : List ℕ → FactSet → Type 0) → m ≡ as_can r → SaysSatisfiability (as_can r) k cs budget P Q
+    → SaysSatisfiability m k cs budget P Q
+can_by m r k cs budget P Q e h = subst (λ x. SaysSatisfiability x k cs budget P Q) (sym e) h
 
-pub must_by : (m : MustSelect) (r : FoundTarget) (k : FactConstraints) (cs : List Condition) (budget : ℕ)
-    (P Q : List ℕ → FactSet → Type 0) → m ≡ as_must r → SaysMustSelect (as_must r) k cs budget P Q
-    → SaysMustSelect m k cs budget P Q
-must_by m r k cs budget P Q e h = subst (λ x. SaysMustSelect x k cs budget P Q) (sym e) h
+pub must_by : (m : Validity) (r : FoundTarget) (k : FactConstraints) (cs : List Condition) (budget : ℕ)
+    (P Q : List ℕ → FactSet → Type 0) → m ≡ as_must r → SaysValidity (as_must r) k cs budget P Q
+    → SaysValidity m k cs budget P Q
+must_by m r k cs budget P Q e h = subst (λ x. SaysValidity x k cs budget P Q) (sym e) h
 
 pub nothing_found : (w : Wanted) (D : List ℕ → Type 0) (budget : ℕ) (r : FoundTarget) → r ≡ one.Nothing
     → SaysTarget r w D budget → (name : List ℕ) → D name → OverEach w.known (λ s. MissedUnder w (Some name) s)

@@ -14,7 +14,7 @@ use Rattle.exact_answers.specs.Goals.{IsAsTold}
 pub use Rattle.exact_answers.proofs.Pairs.{same}
 use Rattle.exact_answers.specs.Possible.{is_single}
 use Rattle.exact_answers.specs.Asking.{is_pair}
-use Rattle.exact_answers.specs.Possible.{is_value, has_value}
+use Rattle.exact_answers.specs.Possible.{has_key, has_value}
 use Rattle.exact_answers.specs.Inside.Paths.{Turn, Base, IsOver, takes, refuses, taken}
 use Rattle.exact_answers.specs.Inside.Paths.{facts_on, set_on, rules_out, is_refuted, told_on, Agrees}
 
@@ -128,7 +128,7 @@ module _ (k : Base) (ds : List Turn) (s : FactSet) (over : IsOver k s) (agrees :
   single_out : (p : Pair) → is_single k.single p ≡ true → has_value p.name (facts_on k ds) ≡ true
       → contains (set_on k ds) p ≡ false → contains s p ≡ false
   single_out p single has out =
-      let r = found (is_value p.name) (facts_on k ds) has in
+      let r = found (has_key p.name) (facts_on k ds) has in
       let q = r.0 in
       let on : contains (set_on k ds) q ≡ true = among (facts_on k ds) q ∙ r.2 in
       let named : q.name ≡ p.name = (bytes_eq-Decides q.name p.name).0 (second_so _ _ r.1) in

@@ -5,7 +5,7 @@ use Rattle.cargo_platform.specs.Trees.{Tree, tree_of, value_of}
 use Rattle.cargo_platform.specs.Facts.{Pair, FactSet, pair_of, fact_set, truth}
 use Rattle.partial_facts.specs.Partly.{IsPartlyKnown}
 use Rattle.exact_answers.specs.declared.fact_constraints.FactConstraints.{FactConstraints}
-pub use Rattle.partial_facts.specs.OneValued.{is_single, HasOneValue, is_value, has_value, is_ruled_out}
+pub use Rattle.partial_facts.specs.OneValued.{is_single, HasOneValue, has_key, has_value, is_ruled_out}
 
 pub record IsPossible (listed : FactSet) (complete single : List (List ℕ)) (assumed : Tree) (s : FactSet) : Type 0 where
   pub partly_known : IsPartlyKnown listed complete s

@@ -7,10 +7,10 @@ use Rattle.exact_answers.specs.Asking.{NeedsMore}
 use Rattle.exact_answers.specs.Answers.{AreExample, OverEach}
 use Rattle.exact_answers.specs.declared.fact_constraints.FactConstraints.{FactConstraints}
 use Rattle.exact_answers.specs.declared.platforms.PossibleTarget.{PossibleTarget}
-use Rattle.exact_answers.specs.declared.platforms.CanSelect.{CanSelect}
-use Rattle.exact_answers.specs.declared.platforms.CanSelect.TheVariants as can
-use Rattle.exact_answers.specs.declared.platforms.MustSelect.{MustSelect}
-use Rattle.exact_answers.specs.declared.platforms.MustSelect.TheVariants as must
+use Rattle.exact_answers.specs.declared.platforms.Satisfiability.{Satisfiability}
+use Rattle.exact_answers.specs.declared.platforms.Satisfiability.TheVariants as can
+use Rattle.exact_answers.specs.declared.platforms.Validity.{Validity}
+use Rattle.exact_answers.specs.declared.platforms.Validity.TheVariants as must
 
 -- a name that the conditions do not name
 abbrev pub IsOtherName : List Condition → List ℕ → Type 0
@@ -44,16 +44,16 @@ ForEach k Q = (name : List ℕ) → OverEach k (λ s. Q name s)
 
 -- an answer on the conditions cs: P holds for the example; where there is none, Q holds for each possible target; or
 -- the budget is too small
-abbrev pub SaysCanSelect : CanSelect → FactConstraints → List Condition → ℕ → (List ℕ → FactSet → Type 0)
+abbrev pub SaysSatisfiability : Satisfiability → FactConstraints → List Condition → ℕ → (List ℕ → FactSet → Type 0)
     → (List ℕ → FactSet → Type 0) → Type 0
-SaysCanSelect (can.Yes t) k cs budget P Q = IsExample t k cs P
-SaysCanSelect can.No k cs budget P Q = ForEach k Q
-SaysCanSelect can.Undecided k cs budget P Q = NeedsMore k (asked_trees cs) budget
+SaysSatisfiability (can.Yes t) k cs budget P Q = IsExample t k cs P
+SaysSatisfiability can.No k cs budget P Q = ForEach k Q
+SaysSatisfiability can.Undecided k cs budget P Q = NeedsMore k (asked_trees cs) budget
 
 -- an answer on the conditions cs: P holds for the counterexample; where there is none, Q holds for each possible
 -- target; or the budget is too small
-abbrev pub SaysMustSelect : MustSelect → FactConstraints → List Condition → ℕ → (List ℕ → FactSet → Type 0)
+abbrev pub SaysValidity : Validity → FactConstraints → List Condition → ℕ → (List ℕ → FactSet → Type 0)
     → (List ℕ → FactSet → Type 0) → Type 0
-SaysMustSelect must.Yes k cs budget P Q = ForEach k Q
-SaysMustSelect (must.No t) k cs budget P Q = IsExample t k cs P
-SaysMustSelect must.Undecided k cs budget P Q = NeedsMore k (asked_trees cs) budget
+SaysValidity must.Yes k cs budget P Q = ForEach k Q
+SaysValidity (must.No t) k cs budget P Q = IsExample t k cs P
+SaysValidity must.Undecided k cs budget P Q = NeedsMore k (asked_trees cs) budget

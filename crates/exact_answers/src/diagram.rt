@@ -26,11 +26,11 @@ pub enum End<'a> {
 
 /// The numbers of nodes of the diagrams that are tried one after the other. The table of the first one takes no
 /// noticeable time. Of 500 hard pairs of keys with up to 27 facts, each takes fewer than half of the last number.
-const MOST_NODES: [usize; 3] = [1_024, 8_192, 131_072];
+const MAX_NODES: [usize; 3] = [1_024, 8_192, 131_072];
 
 /// The maximal number of pairs for which a diagram is made. Each of them takes stack, and a diagram of more would
 /// mostly be too large.
-const MOST_PAIRS: usize = 512;
+const MAX_PAIRS: usize = 512;
 
 /// Returns what a diagram of at most this many nodes finds for the goals.
 fn outcome_within<'a>(
@@ -55,7 +55,7 @@ fn outcome_of<'a>(
 ) -> Result<Outcome, AllocError>
     ensures { IfOk result (λ r. r ≡ Outcome.Nothing → AreMissed (base_of known.now) goals.now []) }
 {
-    for most_nodes in MOST_NODES {
+    for most_nodes in MAX_NODES {
         match outcome_within(alloc, goals, pairs, known, most_nodes)? {
             Outcome::TooLarge => {}
             Outcome::Way(choices) => return Ok(Outcome::Way(choices)),
@@ -130,7 +130,7 @@ pub fn by_diagram<'a>(
     requires { AreAmong (some_asks (goal_trees goals.now)) (pairs_of pairs.now) }
     ensures { IfOk result (λ r. IfSome r (λ end. SaysEnd end known.now goals.now)) }
 {
-    if pairs.len() > MOST_PAIRS {
+    if pairs.len() > MAX_PAIRS {
         return Ok(None);
     }
     match outcome_of(alloc, goals, pairs, known)? {

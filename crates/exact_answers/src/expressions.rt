@@ -39,7 +39,7 @@ pub enum MustHold {
 /// Returns whether any set of facts is possible. Facts, complete names and keys with one value always leave some set,
 /// but what is assumed may be true over none of them. If this returns `No`, so does `can_hold` for each expression, and
 /// `always`, `implies`, `exclude` and `equivalent` return `Yes`.
-pub fn can_be_met<'a>(
+pub fn has_possible_facts<'a>(
     alloc: Global,
     known: &'a FactConstraints<'a>,
     budget: u64,

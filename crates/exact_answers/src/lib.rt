@@ -20,11 +20,11 @@ mod platforms;
 mod search;
 
 pub use expressions::{
-    CanHold, MustHold, always, can_be_met, can_hold, equivalent, exclude, implies,
+    CanHold, MustHold, always, can_hold, equivalent, exclude, has_possible_facts, implies,
 };
 pub use fact_constraints::{FAMILY_RULE, FactConstraints, family_rule};
 pub use partial_facts::ONE_VALUED;
 pub use platforms::{
-    CanSelect, MustSelect, PossibleTarget, always_platform, can_hold_platform, equivalent_platform,
-    exclude_platform, implies_platform,
+    PossibleTarget, Satisfiability, Validity, always_platform, can_hold_platform,
+    equivalent_platform, exclude_platform, implies_platform,
 };

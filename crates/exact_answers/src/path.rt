@@ -9,7 +9,7 @@ ghost use Rattle.cargo_platform.specs.Facts.{pair_of};
 ghost use Rattle.exact_answers.specs.Goals.{IsAsTold};
 ghost use Rattle.exact_answers.specs.Answers.{IsUnmarked};
 ghost use Rattle.exact_answers.specs.Asking.{is_pair, some_asks};
-ghost use Rattle.exact_answers.specs.Possible.{is_value, has_value};
+ghost use Rattle.exact_answers.specs.Possible.{has_key, has_value};
 ghost use Rattle.exact_answers.specs.Inside.Paths.{takes, refuses, facts_on, rules_out};
 ghost use Rattle.exact_answers.specs.Inside.Paths.{base_of, turn_of, turns, turned, taken, set_on, is_refuted};
 ghost use Rattle.exact_answers.specs.Inside.Paths.{unmarked};
@@ -20,7 +20,7 @@ ghost use Rattle.std.specs.FinSet.{contains};
 use crate::fact_constraints::FactConstraints;
 use cargo_platform::{Cfg, Facts, Ident, Listed};
 use partial_facts::Knowledge;
-use partial_facts::names::{has_value, is_named, is_value};
+use partial_facts::names::{has_key, has_value, is_named};
 use std::alloc::{AllocError, Global};
 
 /// A pair that was open, and whether it is taken as a fact.
@@ -56,10 +56,10 @@ fn refuses(splits: &[Split<'_>], c: &Cfg) -> bool
 
 /// Returns whether the key with some value is taken as a fact.
 fn takes_value(splits: &[Split<'_>], key: &Ident) -> bool
-    ensures { result ≡ takes (is_value (string_bytes key.now.name)) (map turn_of splits.now) }
+    ensures { result ≡ takes (has_key (string_bytes key.now.name)) (map turn_of splits.now) }
 {
     for split in splits {
-        if split.holds && is_value(split.fact, key) {
+        if split.holds && has_key(split.fact, key) {
             return true;
         }
     }

@@ -4,7 +4,7 @@ ghost use Rattle.std.specs.Prelude.{◌≡◌, ◌↔◌, true, false, not, [], 
 ghost use Rattle.std.specs.Option.{option_copied};
 ghost use Rattle.cargo_platform.specs.Trees.{True, False, Expression, tree_of, condition_of};
 ghost use Rattle.cargo_platform.specs.Facts.{IsTrueCondition};
-ghost use Rattle.exact_answers.specs.Targets.{SaysCanSelect, SaysMustSelect};
+ghost use Rattle.exact_answers.specs.Targets.{SaysSatisfiability, SaysValidity};
 ghost use Rattle.exact_answers.specs.Inside.Targets.{tree_under, is_name_of, wants, wanted_of, SaysFoundUnder};
 ghost use Rattle.exact_answers.specs.Inside.Targets.{with_name, or_undecided, as_can, as_must, SaysTarget};
 
@@ -26,7 +26,7 @@ pub struct PossibleTarget {
 
 /// Whether a condition can be true.
 #[derive(Drop)]
-pub enum CanSelect {
+pub enum Satisfiability {
     /// It is true on this target.
     Yes(PossibleTarget),
     /// It is true on no possible target.
@@ -37,7 +37,7 @@ pub enum CanSelect {
 
 /// Whether something is true on each possible target.
 #[derive(Drop)]
-pub enum MustSelect {
+pub enum Validity {
     /// It is true on each possible target.
     Yes,
     /// It is false on this target.
@@ -71,13 +71,13 @@ pub fn can_hold_platform<'a>(
     platform: &'a Platform,
     known: &'a FactConstraints<'a>,
     budget: u64,
-) -> Result<CanSelect, AllocError>
+) -> Result<Satisfiability, AllocError>
     // With `Yes`, the condition is true on the example, which is possible. With `No`, it is false for each name over
     // each possible set.
     //
     // `Undecided` is returned only if the budget is too small. With `n` open pairs in what is queried and assumed,
     // `2^n - 1` splits are enough.
-    ensures { IfOk result (λ r. SaysCanSelect r known.now (condition_of platform.now ∷ []) budget
+    ensures { IfOk result (λ r. SaysSatisfiability r known.now (condition_of platform.now ∷ []) budget
         (λ name s. IsTrueCondition name s (condition_of platform.now))
         (λ name s. IsTrueCondition name s (condition_of platform.now) → ⊥)) }
 {
@@ -91,13 +91,13 @@ pub fn always_platform<'a>(
     platform: &'a Platform,
     known: &'a FactConstraints<'a>,
     budget: u64,
-) -> Result<MustSelect, AllocError>
+) -> Result<Validity, AllocError>
     // With `Yes`, it is so for each name over each possible set of facts. With `No`, it is not so for the example,
     // which is possible.
     //
     // `Undecided` is returned only if the budget is too small. With `n` open pairs in what is queried and assumed,
     // `2^n - 1` splits are enough.
-    ensures { IfOk result (λ r. SaysMustSelect r known.now (condition_of platform.now ∷ []) budget
+    ensures { IfOk result (λ r. SaysValidity r known.now (condition_of platform.now ∷ []) budget
         (λ name s. IsTrueCondition name s (condition_of platform.now) → ⊥)
         (λ name s. IsTrueCondition name s (condition_of platform.now))) }
 {
@@ -112,13 +112,13 @@ pub fn implies_platform<'a>(
     b: &'a Platform,
     known: &'a FactConstraints<'a>,
     budget: u64,
-) -> Result<MustSelect, AllocError>
+) -> Result<Validity, AllocError>
     // With `Yes`, it is so for each name over each possible set of facts. With `No`, it is not so for the example,
     // which is possible.
     //
     // `Undecided` is returned only if the budget is too small. With `n` open pairs in what is queried and assumed,
     // `2^n - 1` splits are enough.
-    ensures { IfOk result (λ r. SaysMustSelect r known.now (condition_of a.now ∷ condition_of b.now ∷ []) budget
+    ensures { IfOk result (λ r. SaysValidity r known.now (condition_of a.now ∷ condition_of b.now ∷ []) budget
         (λ name s. IsTrueCondition name s (condition_of a.now) × (IsTrueCondition name s (condition_of b.now) → ⊥))
         (λ name s. IsTrueCondition name s (condition_of a.now) → IsTrueCondition name s (condition_of b.now))) }
 {
@@ -140,13 +140,13 @@ pub fn exclude_platform<'a>(
     b: &'a Platform,
     known: &'a FactConstraints<'a>,
     budget: u64,
-) -> Result<MustSelect, AllocError>
+) -> Result<Validity, AllocError>
     // With `Yes`, it is so for each name over each possible set of facts. With `No`, it is not so for the example,
     // which is possible.
     //
     // `Undecided` is returned only if the budget is too small. With `n` open pairs in what is queried and assumed,
     // `2^n - 1` splits are enough.
-    ensures { IfOk result (λ r. SaysMustSelect r known.now (condition_of a.now ∷ condition_of b.now ∷ []) budget
+    ensures { IfOk result (λ r. SaysValidity r known.now (condition_of a.now ∷ condition_of b.now ∷ []) budget
         (λ name s. IsTrueCondition name s (condition_of a.now) × IsTrueCondition name s (condition_of b.now))
         (λ name s. IsTrueCondition name s (condition_of a.now) → IsTrueCondition name s (condition_of b.now) → ⊥)) }
 {
@@ -168,13 +168,13 @@ pub fn equivalent_platform<'a>(
     b: &'a Platform,
     known: &'a FactConstraints<'a>,
     budget: u64,
-) -> Result<MustSelect, AllocError>
+) -> Result<Validity, AllocError>
     // With `Yes`, it is so for each name over each possible set of facts. With `No`, it is not so for the example,
     // which is possible.
     //
     // `Undecided` is returned only if the budget is too small. With `n` open pairs in what is queried and assumed,
     // `2^n - 1` splits are enough.
-    ensures { IfOk result (λ r. SaysMustSelect r known.now (condition_of a.now ∷ condition_of b.now ∷ []) budget
+    ensures { IfOk result (λ r. SaysValidity r known.now (condition_of a.now ∷ condition_of b.now ∷ []) budget
         (λ name s. (IsTrueCondition name s (condition_of a.now) ↔ IsTrueCondition name s (condition_of b.now)) → ⊥)
         (λ name s. IsTrueCondition name s (condition_of a.now) ↔ IsTrueCondition name s (condition_of b.now))) }
 {
@@ -193,7 +193,7 @@ pub fn equivalent_platform<'a>(
         second_wanted: true,
     };
     match search_targets(alloc, &first, budget)? {
-        FoundTarget::Target(target) => Ok(MustSelect::No(target)),
+        FoundTarget::Target(target) => Ok(Validity::No(target)),
         FoundTarget::Nothing => {
             let found = search_targets(alloc, &second, budget)?;
             Ok(as_must(found))
@@ -206,24 +206,24 @@ pub fn equivalent_platform<'a>(
 }
 
 /// Returns the answer of a search for an example.
-fn as_can(found: FoundTarget) -> CanSelect
+fn as_can(found: FoundTarget) -> Satisfiability
     ensures { result ≡ as_can found }
 {
     match found {
-        FoundTarget::Target(target) => CanSelect::Yes(target),
-        FoundTarget::Nothing => CanSelect::No,
-        FoundTarget::Undecided => CanSelect::Undecided,
+        FoundTarget::Target(target) => Satisfiability::Yes(target),
+        FoundTarget::Nothing => Satisfiability::No,
+        FoundTarget::Undecided => Satisfiability::Undecided,
     }
 }
 
 /// Returns the answer of a search for a counterexample.
-fn as_must(found: FoundTarget) -> MustSelect
+fn as_must(found: FoundTarget) -> Validity
     ensures { result ≡ as_must found }
 {
     match found {
-        FoundTarget::Target(target) => MustSelect::No(target),
-        FoundTarget::Nothing => MustSelect::Yes,
-        FoundTarget::Undecided => MustSelect::Undecided,
+        FoundTarget::Target(target) => Validity::No(target),
+        FoundTarget::Nothing => Validity::Yes,
+        FoundTarget::Undecided => Validity::Undecided,
     }
 }
 

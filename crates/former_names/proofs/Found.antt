@@ -3,7 +3,7 @@ use Rattle.std.proofs.Common.{◌≡◌, ◌≢◌, ℕ, zero, suc, ◌<◌, Lis
 use Rattle.std.proofs.Common.{◌∙◌, sym, subst, suc-le-suc, le_of_suc-le-suc, not-suc-le-zero, zero-lt-suc}
 use Rattle.std.proofs.Common.{Bool, true, false, true≢false, bytes_eq}
 use Rattle.std.proofs.lemmas.Slice.Eq.{bytes_eq-Decides}
-use Rattle.former_names.specs.declared.rows.Bounds.{Bounds}
+use Rattle.former_names.specs.declared.rows.RemovalReleases.{RemovalReleases}
 use Rattle.former_names.specs.Rows.{Numbers, targets_of, facts_of, renamed_of, numbers_of}
 use Rattle.former_names.specs.Rows.{HasTarget, HasPair, IsRenamed}
 
@@ -45,7 +45,7 @@ FactRow = Bor (List ℕ) × Bor (List ℕ) × Numbers × Numbers
 abbrev RenamedRow : Type 0
 RenamedRow = Bor (List ℕ) × Bor (List ℕ)
 
-pub is_target : (rows : List TargetRow) (name : List ℕ) (k : ℕ) (d : TargetRow) (b : Bounds) → k < length rows
+pub is_target : (rows : List TargetRow) (name : List ℕ) (k : ℕ) (d : TargetRow) (b : RemovalReleases) → k < length rows
     → (get_or rows k d).0.now ≡ name → numbers_of b.last ≡ (get_or rows k d).1
     → numbers_of b.gone ≡ (get_or rows k d).2 → HasTarget (targets_of rows) name b
 is_target rows name k d b l is last gone =
@@ -54,12 +54,12 @@ is_target rows name k d b l is last gone =
 
 pub no_target : (rows : List TargetRow) (name : List ℕ)
     → ((k : ℕ) → k < length rows → (d : TargetRow) → (get_or rows k d).0.now ≢ name)
-    → (b : Bounds) → HasTarget (targets_of rows) name b → ⊥
+    → (b : RemovalReleases) → HasTarget (targets_of rows) name b → ⊥
 no_target rows name none b has =
     not_made (λ r. (r.0.now, r.1, r.2)) rows (name, numbers_of b.last, numbers_of b.gone)
     (λ k l d e. none k l d (ap (λ y. y.0) e)) has
 
-pub is_fact : (rows : List FactRow) (key value : List ℕ) (k : ℕ) (d : FactRow) (b : Bounds) → k < length rows
+pub is_fact : (rows : List FactRow) (key value : List ℕ) (k : ℕ) (d : FactRow) (b : RemovalReleases) → k < length rows
     → (get_or rows k d).0.now ≡ key → (get_or rows k d).1.now ≡ value → numbers_of b.last ≡ (get_or rows k d).2
     → numbers_of b.gone ≡ (get_or rows k d).3 → HasPair (facts_of rows) key value b
 is_fact rows key value k d b l is with last gone =
@@ -68,7 +68,7 @@ is_fact rows key value k d b l is with last gone =
 
 pub no_fact : (rows : List FactRow) (key value : List ℕ)
     → ((k : ℕ) → k < length rows → (d : FactRow) → (get_or rows k d).0.now ≡ key → (get_or rows k d).1.now ≢ value)
-    → (b : Bounds) → HasPair (facts_of rows) key value b → ⊥
+    → (b : RemovalReleases) → HasPair (facts_of rows) key value b → ⊥
 no_fact rows key value none b has =
     not_made (λ r. (r.0.now, r.1.now, r.2, r.3)) rows (key, value, numbers_of b.last, numbers_of b.gone)
     (λ k l d e. none k l d (ap (λ y. y.0) e) (ap (λ y. y.1) e)) has

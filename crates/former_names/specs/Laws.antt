@@ -3,7 +3,7 @@ use Rattle.std.specs.Prelude.{◌≡◌, ◌⊎◌, Option}
 use Rattle.former_names.specs.Releases.{IsAtMost}
 use Rattle.former_names.specs.Verdicts.{IsVerdict}
 use Rattle.former_names.specs.declared.releases.Release.{Release}
-use Rattle.former_names.specs.declared.rows.Bounds.{Bounds}
+use Rattle.former_names.specs.declared.rows.RemovalReleases.{RemovalReleases}
 use Rattle.former_names.specs.declared.verdicts.Verdict.{Verdict}
 
 abbrev pub IsTotal : Type 0
@@ -17,5 +17,5 @@ IsAntisymmetric = (a b : Release) → IsAtMost a b → IsAtMost b a → a ≡ b
 
 -- a project has exactly one verdict
 abbrev pub HasOneVerdict : Type 0
-HasOneVerdict = (b : Bounds) (rustc version : Option Release) (v w : Verdict)
+HasOneVerdict = (b : RemovalReleases) (rustc version : Option Release) (v w : Verdict)
     → IsVerdict b rustc version v → IsVerdict b rustc version w → v ≡ w

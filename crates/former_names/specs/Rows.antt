@@ -3,7 +3,7 @@ use Rattle.std.specs.Prelude.{ℕ, List, map, Contains}
 use Rattle.std.specs.Borrow.{Bor}
 use Rattle.cargo_platform.specs.Trees.{CfgValue, Alone, KeyPair}
 use Rattle.former_names.specs.declared.releases.Release.{Release}
-use Rattle.former_names.specs.declared.rows.Bounds.{Bounds}
+use Rattle.former_names.specs.declared.rows.RemovalReleases.{RemovalReleases}
 use Rattle.former_names.specs.declared.table.TheConstants.{TARGETS, FACTS, RENAMED}
 
 abbrev pub Numbers : Type 0
@@ -44,15 +44,15 @@ abbrev pub numbers_of : Release → Numbers
 numbers_of r = (r.major, r.minor, r.patch)
 
 -- the rows have the name of a target, with these releases
-abbrev pub HasTarget : List TargetRow → List ℕ → Bounds → Type 0
+abbrev pub HasTarget : List TargetRow → List ℕ → RemovalReleases → Type 0
 HasTarget rows name b = Contains rows (name, numbers_of b.last, numbers_of b.gone)
 
 -- they have the key with the value
-abbrev pub HasPair : List FactRow → List ℕ → List ℕ → Bounds → Type 0
+abbrev pub HasPair : List FactRow → List ℕ → List ℕ → RemovalReleases → Type 0
 HasPair rows key value b = Contains rows (key, value, numbers_of b.last, numbers_of b.gone)
 
 -- the table has the fact, whatever its raw mark
-abbrev pub HasFact : CfgValue → Bounds → Type 0
+abbrev pub HasFact : CfgValue → RemovalReleases → Type 0
 HasFact (Alone name) b = ⊥
 HasFact (KeyPair key value) b = HasPair fact_rows key.name value b
 

@@ -12,5 +12,5 @@ mod table;
 mod verdicts;
 
 pub use releases::Release;
-pub use rows::{Bounds, former_fact, former_target, has_former_value, name_now};
+pub use rows::{RemovalReleases, current_name, former_fact, former_target, has_former_value};
 pub use verdicts::Verdict;

@@ -23,7 +23,7 @@ pub type RenamedRow = (&'static str, &'static str);
 
 /// The releases between which a name was removed.
 #[derive(Clone, Copy, Debug, PartialEq, Eq, Drop)]
-pub struct Bounds {
+pub struct RemovalReleases {
     /// The last release that is known to have it.
     pub last: Release,
     /// The first release that is known to lack it.
@@ -64,14 +64,14 @@ fn release(numbers: Numbers) -> Release
 }
 
 /// Returns the releases in the row of a target with this name.
-fn find_target(rows: &[TargetRow], name: &str) -> Option<Bounds>
+fn find_target(rows: &[TargetRow], name: &str) -> Option<RemovalReleases>
     ensures found { IfSome result (λ b. HasTarget (targets_of rows.now) name.now b) }
-    ensures none { IfNone result ((b : Bounds) → HasTarget (targets_of rows.now) name.now b → ⊥) }
+    ensures none { IfNone result ((b : RemovalReleases) → HasTarget (targets_of rows.now) name.now b → ⊥) }
 {
     'rows: for row in rows {
         let (listed, last, gone) = row;
         if *listed == name {
-            return Some(Bounds {
+            return Some(RemovalReleases {
                 last: release(*last),
                 gone: release(*gone),
             });
@@ -81,14 +81,14 @@ fn find_target(rows: &[TargetRow], name: &str) -> Option<Bounds>
 }
 
 /// Returns the releases in the row of a fact with this key and value.
-fn find_fact(rows: &[FactRow], key: &str, value: &str) -> Option<Bounds>
+fn find_fact(rows: &[FactRow], key: &str, value: &str) -> Option<RemovalReleases>
     ensures found { IfSome result (λ b. HasPair (facts_of rows.now) key.now value.now b) }
-    ensures none { IfNone result ((b : Bounds) → HasPair (facts_of rows.now) key.now value.now b → ⊥) }
+    ensures none { IfNone result ((b : RemovalReleases) → HasPair (facts_of rows.now) key.now value.now b → ⊥) }
 {
     'rows: for row in rows {
         let (listed, with, last, gone) = row;
         if *listed == key && *with == value {
-            return Some(Bounds {
+            return Some(RemovalReleases {
                 last: release(*last),
                 gone: release(*gone),
             });
@@ -97,7 +97,7 @@ fn find_fact(rows: &[FactRow], key: &str, value: &str) -> Option<Bounds>
     None
 }
 
-/// Returns the present name of a target that had this name.
+/// Returns the current name of a target that had this name.
 fn find_renamed(rows: &[RenamedRow], name: &str) -> Option<&'static str>
     ensures found { IfSome result (λ now. IsRenamed (renamed_of rows.now) name.now now.now) }
     ensures none { IfNone result ((now : List ℕ) → IsRenamed (renamed_of rows.now) name.now now → ⊥) }
@@ -112,27 +112,27 @@ fn find_renamed(rows: &[RenamedRow], name: &str) -> Option<&'static str>
 }
 
 /// Returns the releases between which the target with this name was removed, or `None` if the table does not have it.
-pub fn former_target(name: &str) -> Option<Bounds>
+pub fn former_target(name: &str) -> Option<RemovalReleases>
     ensures found { IfSome result (λ b. HasTarget target_rows name.now b) }
-    ensures none { IfNone result ((b : Bounds) → HasTarget target_rows name.now b → ⊥) }
+    ensures none { IfNone result ((b : RemovalReleases) → HasTarget target_rows name.now b → ⊥) }
 {
     find_target(targets(), name)
 }
 
 /// Returns the releases between which the pair of this key and value was removed, or `None` if the table does not have
 /// it.
-fn former_pair(key: &str, value: &str) -> Option<Bounds>
+fn former_pair(key: &str, value: &str) -> Option<RemovalReleases>
     ensures found { IfSome result (λ b. HasPair fact_rows key.now value.now b) }
-    ensures none { IfNone result ((b : Bounds) → HasPair fact_rows key.now value.now b → ⊥) }
+    ensures none { IfNone result ((b : RemovalReleases) → HasPair fact_rows key.now value.now b → ⊥) }
 {
     find_fact(facts(), key, value)
 }
 
 /// Returns the releases between which a fact was removed, or `None` if the table does not have it. Its raw mark plays
 /// no part.
-pub fn former_fact(c: &Cfg) -> Option<Bounds>
+pub fn former_fact(c: &Cfg) -> Option<RemovalReleases>
     ensures found { IfSome result (λ b. HasFact (value_of c.now) b) }
-    ensures none { IfNone result ((b : Bounds) → HasFact (value_of c.now) b → ⊥) }
+    ensures none { IfNone result ((b : RemovalReleases) → HasFact (value_of c.now) b → ⊥) }
 {
     match c {
         Cfg::Name(_) => None,
@@ -152,8 +152,8 @@ pub fn has_former_value(text: &str) -> bool {
     false
 }
 
-/// Returns the present name of the target that had this name, if the release notes give one, or `None`.
-pub fn name_now(name: &str) -> Option<&'static str>
+/// Returns the current name of the target that had this name, if the release notes give one, or `None`.
+pub fn current_name(name: &str) -> Option<&'static str>
     ensures found { IfSome result (λ now. IsRenamed renamed_rows name.now now.now) }
     ensures none { IfNone result ((now : List ℕ) → IsRenamed renamed_rows name.now now → ⊥) }
 {

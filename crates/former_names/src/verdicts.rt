@@ -4,7 +4,7 @@ ghost use Rattle.std.specs.Prelude.{◌↔◌, IsTrue};
 ghost use Rattle.former_names.specs.Verdicts.{IsKnownTo, IsLacking, IsClose, IsVerdict};
 
 use crate::releases::Release;
-use crate::rows::Bounds;
+use crate::rows::RemovalReleases;
 
 /// The consequence of an unknown name for a project.
 #[derive(Clone, Copy, Debug, PartialEq, Eq, Drop)]
@@ -17,7 +17,7 @@ pub enum Verdict {
     GoneForAll,
 }
 
-impl Bounds {
+impl RemovalReleases {
     /// Returns whether a project names a rustc that is known to have the name.
     fn is_known_to(self, rustc: Option<Release>) -> bool
         ensures { IsTrue result ↔ IsKnownTo self rustc }
@@ -43,7 +43,7 @@ impl Bounds {
     pub fn is_exact(self) -> bool
         ensures { IsTrue result ↔ IsClose self }
     {
-        let Bounds { last, gone } = self;
+        let RemovalReleases { last, gone } = self;
         last.major == gone.major && last.minor < gone.minor && gone.minor - last.minor == 1
     }
 

@@ -9,7 +9,7 @@ use graph_queries::sides::{is_selected, side_note, side_word};
 use key_answers::answer::{Answer, Status};
 use key_answers::json_lines;
 use key_answers::targets::TargetList;
-use known_targets::{TargetSet, classes};
+use known_targets::{TargetSet, partition_targets};
 use package_graphs::Side;
 use serde::Serialize;
 use std::alloc::{AllocError, Global};
@@ -82,7 +82,7 @@ fn built_for<'a>(
         sets.push(features.resolution.with_feature(index, side, i))?;
     }
     let used = features.resolution.used_on(index, side);
-    for class in classes(alloc, &sets)? {
+    for class in partition_targets(alloc, &sets)? {
         let targets = class.intersection(used).intersection(query.targets);
         if !targets.is_empty() {
             built.push(Built {

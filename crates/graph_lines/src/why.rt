@@ -19,7 +19,7 @@ use serde::Serialize;
 use std::alloc::{AllocError, Global};
 
 /// So many targets that were selected by name are printed by name at most.
-const MOST_NAMES: usize = 8;
+const MAX_NAMES: usize = 8;
 
 /// A shortest dependency path, and the targets on which it is found.
 #[derive(Drop)]
@@ -184,7 +184,7 @@ fn format_path_targets(
     }
     let number = query.count_of(targets);
     let count = format_target_count(alloc, number)?;
-    if query.are_named && number <= MOST_NAMES {
+    if query.are_named && number <= MAX_NAMES {
         let names = joined_names(alloc, targets, query)?;
         return format!(in alloc; "{count}: {names}");
     }

@@ -4,7 +4,7 @@ use crate::edges::edges_of;
 use crate::graph::Graph;
 use crate::query::GraphQuery;
 use cargo_platform::{Cfg, values_of};
-use known_targets::{TargetSet, classes};
+use known_targets::{TargetSet, partition_targets};
 use selected_targets::ConditionSearch;
 use std::alloc::{AllocError, Global};
 
@@ -59,7 +59,7 @@ fn queried_facts(alloc: Global, graph: &Graph<'_>) -> Result<Vec<Cfg>, AllocErro
 
 /// Returns the classes in the order of their first targets.
 fn sets_of(alloc: Global, graph: &Graph<'_>) -> Result<Vec<TargetSet>, AllocError> {
-    let mut sets = classes(alloc, &different_sets(alloc, graph)?)?;
+    let mut sets = partition_targets(alloc, &different_sets(alloc, graph)?)?;
     sets.sort_by_key(|set| first_of(*set))?;
     Ok(sets)
 }

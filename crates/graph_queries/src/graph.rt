@@ -7,7 +7,7 @@ use crate::sides::{BySide, is_selected};
 use cargo_metadata::graphs::Linked;
 use cargo_metadata::{Metadata, Package as Described};
 use known_targets::TargetSet;
-use package_graphs::{Dependency, PackageQuery, PackageSets, Side, present_packages};
+use package_graphs::{Dependency, PackageQuery, PackageTargets, Side, package_targets};
 use std::alloc::{AllocError, Global};
 
 /// A dependency graph, with the targets on which each package is in the build.
@@ -17,7 +17,7 @@ pub struct Graph<'a> {
     pub linked: Linked<'a>,
     /// The folder of the workspace, if the document names it.
     pub workspace: Option<&'a str>,
-    pub sets: PackageSets,
+    pub sets: PackageTargets,
     /// The selected side, or `None` for both.
     pub side: Option<Side>,
     /// The indexes of the packages, sorted by name, version and id.
@@ -37,7 +37,7 @@ impl<'a> Graph<'a> {
         linked: Linked<'a>,
         query: &GraphQuery<'_>,
     ) -> Result<Graph<'a>, AllocError> {
-        let sets = present_packages(alloc, &linked.packages, query.kinds, query.host)?;
+        let sets = package_targets(alloc, &linked.packages, query.kinds, query.host)?;
         let order = in_order(alloc, &linked.described)?;
         let twins = twins_of(alloc, &linked.described, &order)?;
         Ok(Graph {

@@ -8,7 +8,7 @@ use crate::lines::{format_text, push};
 use cargo_metadata::graphs::{EdgeError, GraphError};
 use cargo_metadata::{ExpectedValue, Metadata, MetadataError, ResolveError};
 use cargo_platform::ParseError;
-use input_limits::{deep_at, deep_text};
+use input_limits::{too_deep_at, too_deep_message};
 pub use key_answers::answer::file_error;
 use key_answers::printing::invalid_key_message;
 use serde_json::Value;
@@ -120,7 +120,7 @@ fn first_deep(metadata: &Metadata<'_>) -> Option<((usize, usize, usize), usize)>
                 let Some(condition) = row.condition else {
                     continue;
                 };
-                if let Some(at) = deep_at(condition) {
+                if let Some(at) = too_deep_at(condition) {
                     return Some(((i, j, k), at));
                 }
             }
@@ -137,7 +137,7 @@ fn deep_reason(
     at: usize,
 ) -> Result<String, AllocError> {
     let (i, j, k) = places;
-    let reason = deep_text(alloc, at)?;
+    let reason = too_deep_message(alloc, at)?;
     let reason = format!(in alloc;
         "resolve.nodes[{i}].deps[{j}].dep_kinds[{k}].target: the text is {reason}"
     )?;

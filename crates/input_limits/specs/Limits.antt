@@ -24,10 +24,10 @@ SpellsNothing key = (c : Condition) → IsConditionText key c → ⊥
 
 -- the key is nested too deeply from a position on, or else it spells no condition, because of this fault
 abbrev pub IsWhyUnread : List ℕ → KeyError → Type 0
-IsWhyUnread key (error.Deep at) = IsDeepAt key at
+IsWhyUnread key (error.TooDeep at) = IsDeepAt key at
 IsWhyUnread key (error.Parse e) =
     IsShallow key × SpellsNothing key × IsRefusedConditionAt key (orig_of e) (fault_in e) (span_in e)
 IsWhyUnread key (error.Memory e) = Unit {0}
 
-abbrev pub deep_text : ℕ → List ℕ
-deep_text at = codes "nested too deep: more than 100000 groups are open at byte " ++ decimal at
+abbrev pub too_deep_message : ℕ → List ℕ
+too_deep_message at = codes "nested too deep: more than 100000 groups are open at byte " ++ decimal at

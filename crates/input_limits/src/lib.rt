@@ -6,7 +6,8 @@ mod keys;
 pub mod laws;
 mod texts;
 
-pub use keys::{KeyError, MOST_GROUPS, deep_at, deep_text, read_key};
+pub use keys::{KeyError, MAX_GROUP_DEPTH, read_key, too_deep_at, too_deep_message};
 pub use texts::{
-    INPUT, InputError, LIMIT, read_file, read_input, read_text, reason_of, strip_byte_order_mark,
+    DEFAULT_LIMIT, InputError, STDIN_PATH, read_file, read_input, read_text, reason_of,
+    strip_byte_order_mark,
 };

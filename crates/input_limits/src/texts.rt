@@ -11,10 +11,10 @@ use std::io::{self, ErrorKind, Read};
 use std::rt::Files;
 
 /// The greatest number of bytes of an input, unless another limit is given: 64 MiB.
-pub const LIMIT: u64 = 67_108_864;
+pub const DEFAULT_LIMIT: u64 = 67_108_864;
 
 /// The path that means standard input.
-pub const INPUT: &str = "-";
+pub const STDIN_PATH: &str = "-";
 
 /// An input that can't be used, and the reason, both as they are printed.
 #[derive(Drop)]
@@ -97,7 +97,7 @@ pub fn read_input<R: Files + Input + AllocGlobal>(
 ) -> io::Result<String>
     ensures { IfOk result (λ text. string_len text ≤ limit) }
 {
-    if path == INPUT {
+    if path == STDIN_PATH {
         read_text(rt.alloc(), rt.reader(), limit)
     } else {
         read_file(rt, path, limit)

@@ -10,7 +10,7 @@ use Rattle.cargo_platform.specs.Print.{print_fault}
 use Rattle.cargo_platform.specs.Snippets.{shown_line}
 use Rattle.cargo_platform.specs.Trees.{CfgValue, Alone, KeyPair}
 use Rattle.cargo_platform.specs.declared.error.ParseError.{ParseError}
-use Rattle.input_limits.specs.Limits.{deep_text}
+use Rattle.input_limits.specs.Limits.{too_deep_message}
 use Rattle.key_answers.specs.declared.answer.Status.{Status}
 use Rattle.key_answers.specs.declared.answer.Status.TheVariants as status
 
@@ -25,8 +25,8 @@ code_of status.Found = 1
 code_of status.Unusable = 2
 
 -- a statement about a key that is too deep
-abbrev pub deep_key : ℕ → List ℕ
-deep_key at = codes "error: the key is " ++ deep_text at ++ codes "\n"
+abbrev pub key_too_deep_message : ℕ → List ℕ
+key_too_deep_message at = codes "error: the key is " ++ too_deep_message at ++ codes "\n"
 
 -- a key that begins with `cfg(` and does not end with `)`
 abbrev pub is_unclosed : List ℕ → Bool

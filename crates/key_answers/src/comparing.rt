@@ -7,7 +7,7 @@ use crate::printing::format_example;
 use crate::work::{Keys, split_budget};
 use cargo_platform::{CfgExpr, Platform};
 use exact_answers::{
-    FactConstraints, MustSelect, ONE_VALUED, PossibleTarget, exclude_platform, family_rule,
+    FactConstraints, ONE_VALUED, PossibleTarget, Validity, exclude_platform, family_rule,
     implies_platform,
 };
 use known_targets::{COUNT, TargetSet, matching};
@@ -58,22 +58,22 @@ impl Relation {
 /// The relations between two keys on every possible target, that is, for every possible set of facts.
 #[derive(Drop)]
 pub struct ExactRelations {
-    pub implies: MustSelect,
-    pub implied_by: MustSelect,
-    pub excludes: MustSelect,
+    pub implies: Validity,
+    pub implied_by: Validity,
+    pub excludes: Validity,
 }
 
 impl ExactRelations {
     /// Returns whether each key implies the other one. An example against either shows that they are not equivalent.
-    pub fn equivalent(&self) -> &MustSelect {
+    pub fn equivalent(&self) -> &Validity {
         match (&self.implies, &self.implied_by) {
-            (MustSelect::Yes, _) | (MustSelect::Undecided, MustSelect::No(_)) => &self.implied_by,
+            (Validity::Yes, _) | (Validity::Undecided, Validity::No(_)) => &self.implied_by,
             _ => &self.implies,
         }
     }
 
     /// Returns the answer on a relation.
-    fn on(&self, relation: Relation) -> &MustSelect {
+    fn on(&self, relation: Relation) -> &Validity {
         match relation {
             Relation::Implies => &self.implies,
             Relation::ImpliedBy => &self.implied_by,
@@ -118,23 +118,23 @@ pub(crate) fn at_known_targets(
 }
 
 /// Returns the answer with the facts of its example sorted, each once.
-fn tidy(answer: MustSelect) -> Result<MustSelect, AllocError> {
+fn tidy(answer: Validity) -> Result<Validity, AllocError> {
     match answer {
-        MustSelect::No(PossibleTarget { name, mut facts }) => {
+        Validity::No(PossibleTarget { name, mut facts }) => {
             facts.sort()?;
             facts.dedup();
-            Ok(MustSelect::No(PossibleTarget { name, facts }))
+            Ok(Validity::No(PossibleTarget { name, facts }))
         }
         other => Ok(other),
     }
 }
 
 /// Returns the text for the answer on a relation.
-fn told(alloc: Global, answer: &MustSelect) -> Result<String, AllocError> {
+fn told(alloc: Global, answer: &Validity) -> Result<String, AllocError> {
     match answer {
-        MustSelect::Yes => String::from_str(alloc, "yes"),
-        MustSelect::Undecided => String::from_str(alloc, "undecided"),
-        MustSelect::No(example) => {
+        Validity::Yes => String::from_str(alloc, "yes"),
+        Validity::Undecided => String::from_str(alloc, "undecided"),
+        Validity::No(example) => {
             let example = format_example(alloc, example)?;
             format!(in alloc; "no, {example}")
         }
@@ -225,7 +225,7 @@ fn undecided_notes(
 ) -> Result<String, AllocError> {
     let mut errors = String::new(alloc);
     for relation in RELATIONS {
-        if matches!(everywhere.on(relation), MustSelect::Undecided) {
+        if matches!(everywhere.on(relation), Validity::Undecided) {
             let words = relation.words();
             let note = format!(in alloc; "note: {words}: {budget} steps are used up\n")?;
             errors.push_str(note.as_str())?;

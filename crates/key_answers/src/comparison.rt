@@ -3,7 +3,7 @@
 use crate::comparing::{ExactRelations, KnownTargetRelations, RELATIONS};
 use crate::json_lines;
 use crate::targets::{AllTargets, TargetList, names_of};
-use exact_answers::MustSelect;
+use exact_answers::Validity;
 use known_targets::TargetSet;
 use serde::Serialize;
 use std::alloc::{AllocError, Global};
@@ -64,11 +64,11 @@ fn targets_of(alloc: Global, targets: TargetSet) -> Result<Targets, AllocError> 
 }
 
 /// Returns the answer on a relation, for JSON.
-fn verdict_of(alloc: Global, answer: &MustSelect) -> Result<Verdict<'_>, AllocError> {
+fn verdict_of(alloc: Global, answer: &Validity) -> Result<Verdict<'_>, AllocError> {
     let example = match answer {
-        MustSelect::No(example) => example,
-        MustSelect::Yes => return Ok(Verdict::without_example("yes")),
-        MustSelect::Undecided => return Ok(Verdict::without_example("undecided")),
+        Validity::No(example) => example,
+        Validity::Yes => return Ok(Verdict::without_example("yes")),
+        Validity::Undecided => return Ok(Verdict::without_example("undecided")),
     };
     let mut facts = Vec::new(alloc);
     for fact in &example.facts {

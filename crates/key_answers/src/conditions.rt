@@ -6,7 +6,7 @@ ghost use Rattle.cargo_platform.specs.Platforms.{IsConditionText};
 ghost use Rattle.input_limits.specs.Limits.{IsShallow};
 
 use crate::answer::QueryError;
-use crate::printing::{deep_key, invalid_key_message};
+use crate::printing::{invalid_key_message, key_too_deep_message};
 use cargo_platform::Platform;
 use input_limits::KeyError;
 use std::alloc::Global;
@@ -18,7 +18,7 @@ pub fn read_key(alloc: Global, key: &str) -> Result<Platform, QueryError>
 {
     match input_limits::read_key(alloc, key) {
         Ok(platform) => Ok(platform),
-        Err(KeyError::Deep(at)) => Err(QueryError::Unusable(deep_key(alloc, at)?)),
+        Err(KeyError::TooDeep(at)) => Err(QueryError::Unusable(key_too_deep_message(alloc, at)?)),
         Err(KeyError::Parse(error)) => Err(QueryError::Unusable(invalid_key_message(
             alloc, key, &error,
         )?)),

@@ -4,12 +4,13 @@ ghost use Rattle.std.specs.Prelude.{◌≡◌, ◌++◌, ◌==◌, IfOk, OnOk, f
 ghost use Rattle.std.specs.List.{list_any};
 ghost use Rattle.cargo_platform.specs.FaultLaws.{IsSpanIn};
 ghost use Rattle.cargo_platform.specs.Trees.{value_of};
-ghost use Rattle.key_answers.specs.Printing.{fact_line, deep_key, is_unclosed, is_unopened, error_text, unopened_text};
+ghost use Rattle.key_answers.specs.Printing.{fact_line, key_too_deep_message, is_unclosed, is_unopened, error_text};
+ghost use Rattle.key_answers.specs.Printing.{unopened_text};
 ghost use Rattle.key_answers.specs.Printing.{IsKeyReason};
 
 use cargo_platform::{Cfg, ParseError, printable_excerpt};
 use exact_answers::PossibleTarget;
-use input_limits::deep_text;
+use input_limits::too_deep_message;
 use std::alloc::{AllocError, Global};
 use std::ops::Range;
 
@@ -202,10 +203,10 @@ pub fn invalid_key_message(
 }
 
 /// Returns the message for a key that is nested too deep from this byte on.
-pub(crate) fn deep_key(alloc: Global, at: usize) -> Result<String, AllocError>
-    ensures { IfOk result (λ text. string_bytes text ≡ deep_key at) }
+pub(crate) fn key_too_deep_message(alloc: Global, at: usize) -> Result<String, AllocError>
+    ensures { IfOk result (λ text. string_bytes text ≡ key_too_deep_message at) }
 {
-    let reason = deep_text(alloc, at)?;
+    let reason = too_deep_message(alloc, at)?;
     format!(in alloc; "error: the key is {reason}\n")
 }
 

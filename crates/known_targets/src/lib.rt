@@ -12,7 +12,7 @@ mod listing;
 mod matching_targets;
 mod members;
 mod open_names;
-mod open_target;
+mod partial_target;
 mod partition;
 mod rows;
 mod table;
@@ -23,11 +23,11 @@ mod walk;
 pub use known::KnownTarget;
 pub use known_facts::{KnownFact, all_facts};
 pub use matching_targets::{
-    certainly_matching, is_value, matching, possibly_matching, targets_with_fact,
+    certainly_matching, is_known_value, matching, possibly_matching, targets_with_fact,
 };
 pub use members::Targets;
-pub use open_target::OpenTarget;
-pub use partition::classes;
-pub use table::{COUNT, RUSTC_VERSION, WORDS};
+pub use partial_target::PartialTarget;
+pub use partition::partition_targets;
+pub use table::{COUNT, RUSTC_VERSION, SET_WORDS};
 pub use target_set::TargetSet;
 pub use views::names;

@@ -106,7 +106,7 @@ pub fn targets_with_fact(c: &Cfg) -> TargetSet
 }
 
 /// Returns whether the table lists this text as a value of some key.
-pub fn is_value(text: &str) -> bool
+pub fn is_known_value(text: &str) -> bool
     // With `false`, no known target has a key with this value.
     ensures { result ≡ false → (key : Name) → is_had table_keys (KeyPair key text.now) ≡ false }
 {

@@ -9,7 +9,7 @@ use std::alloc::{AllocError, Global};
 
 /// Returns the known targets in classes: two are in one class exactly if each of the sets has both or neither. Fails
 /// only if an allocation fails.
-pub fn classes(alloc: Global, sets: &[TargetSet]) -> Result<Vec<TargetSet>, AllocError>
+pub fn partition_targets(alloc: Global, sets: &[TargetSet]) -> Result<Vec<TargetSet>, AllocError>
     // Each known target is in one class, with exactly those that each of the sets has too, or lacks too. No class is
     // empty.
     ensures { IfOk result (λ classes. AreClasses sets.now classes.items) }

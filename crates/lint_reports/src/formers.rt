@@ -3,7 +3,7 @@
 use crate::settings::Settings;
 use cargo_platform::{Cfg, Platform, ReadError, values_of};
 use former_names::{
-    Bounds, Release, Verdict, former_fact, former_target, has_former_value, name_now,
+    Release, RemovalReleases, Verdict, current_name, former_fact, former_target, has_former_value,
 };
 use manifest_lints_findings::{Children, Level, Lint, Site, TableDiagnostic};
 use manifests::{ExpectedCfgs, Targets, target_keys};
@@ -51,7 +51,7 @@ impl<'a> ToolchainSettings<'a> {
     }
 
     /// Returns the notes that say why no rustc that builds the project knows a name.
-    fn reasons(&self, alloc: Global, bounds: Bounds) -> Result<Children, AllocError> {
+    fn reasons(&self, alloc: Global, bounds: RemovalReleases) -> Result<Children, AllocError> {
         if bounds.is_removed_in(self.rustc()) {
             return reasons(alloc, "the rustc of this project", self.rustc());
         }
@@ -68,8 +68,8 @@ fn reasons(alloc: Global, subject: &str, release: Option<Release>) -> Result<Chi
 }
 
 /// Formats until which release rustc knew a name.
-fn until(alloc: Global, name: &str, bounds: Bounds) -> Result<String, AllocError> {
-    let Bounds { last, gone } = bounds;
+fn until(alloc: Global, name: &str, bounds: RemovalReleases) -> Result<String, AllocError> {
+    let RemovalReleases { last, gone } = bounds;
     if bounds.is_exact() {
         format!(in alloc; "rustc knew `{name}` until {last}")
     } else {
@@ -83,7 +83,7 @@ fn former(
     alloc: Global,
     key: &str,
     name: &str,
-    bounds: Bounds,
+    bounds: RemovalReleases,
     project: &ToolchainSettings<'_>,
 ) -> Result<Option<TableDiagnostic>, AllocError> {
     let verdict = bounds.verdict(project.rustc(), project.rust_version);
@@ -112,13 +112,13 @@ fn former(
 fn former_of_target(
     alloc: Global,
     name: &str,
-    bounds: Bounds,
+    bounds: RemovalReleases,
     project: &ToolchainSettings<'_>,
 ) -> Result<Option<TableDiagnostic>, AllocError> {
     let Some(mut wrong) = former(alloc, name, name, bounds, project)? else {
         return Ok(None);
     };
-    if let Some(now) = name_now(name) {
+    if let Some(now) = current_name(name) {
         let help = format!(in alloc; "write `{now}`, the name of the target now")?;
         wrong.children.helps.push(help)?;
         wrong.suggestion = Some(now);
@@ -131,7 +131,7 @@ fn former_of_target(
 struct FormerFact<'a> {
     key: &'a str,
     value: &'a str,
-    bounds: Bounds,
+    bounds: RemovalReleases,
     /// The span in the key, in bytes.
     span: Option<Span>,
 }
@@ -246,7 +246,7 @@ impl FormerNames {
         &mut self,
         alloc: Global,
         name: &str,
-        bounds: Bounds,
+        bounds: RemovalReleases,
         project: &ToolchainSettings<'_>,
     ) -> Result<(), AllocError> {
         if project.knows_target(name) {

@@ -9,7 +9,7 @@ ghost use Rattle.manifests.specs.Tables.{target_of};
 ghost use Rattle.manifest_answers.specs.Deep.{HasNoDeepKey, IsShallowEntry};
 
 use cargo_platform::printable_excerpt;
-use input_limits::{deep_at, deep_text};
+use input_limits::{too_deep_at, too_deep_message};
 use manifests::reading::Manifest;
 use manifests::{TargetKey, Targets, target_keys};
 use std::alloc::{AllocError, Global};
@@ -44,7 +44,7 @@ fn deep_of<'a>(keys: &[TargetKey<'a>]) -> Option<(&'a str, usize)>
     ensures shallow { IfNone result (All IsShallowEntry (map entry_of keys.now)) }
 {
     'keys: for key in keys {
-        if let Some(at) = deep_at(key.key) {
+        if let Some(at) = too_deep_at(key.key) {
             return Some((key.key, at));
         }
     }
@@ -67,7 +67,7 @@ fn deep_key(
         None => String::from_str(alloc, path)?,
     };
     let shown = printable_excerpt(alloc, key)?;
-    let reason = deep_text(alloc, at)?;
+    let reason = too_deep_message(alloc, at)?;
     let message = format!(in alloc; "the key is {reason}")?;
     Ok(DeepKey {
         place,

@@ -2,7 +2,9 @@
 
 use crate::questions::{copied, facts_of_lines};
 use cargo_platform::{Cfg, CfgExpr, Platform};
-use exact_answers::{CanSelect, FactConstraints, MustSelect, always_platform, can_hold_platform};
+use exact_answers::{
+    FactConstraints, Satisfiability, Validity, always_platform, can_hold_platform,
+};
 use input_limits::strip_byte_order_mark;
 use key_answers::answer::QueryError;
 use key_answers::printing::{format_name, invalid_fact_message};
@@ -350,12 +352,12 @@ fn can_be(alloc: Global, condition: &Platform) -> Result<(bool, bool), AllocErro
         assumed: &anything,
     };
     let can_hold = match can_hold_platform(alloc, condition, &known, SPLITS)? {
-        CanSelect::No => false,
-        CanSelect::Yes(_) | CanSelect::Undecided => true,
+        Satisfiability::No => false,
+        Satisfiability::Yes(_) | Satisfiability::Undecided => true,
     };
     let can_fail = match always_platform(alloc, condition, &known, SPLITS)? {
-        MustSelect::Yes => false,
-        MustSelect::No(_) | MustSelect::Undecided => true,
+        Validity::Yes => false,
+        Validity::No(_) | Validity::Undecided => true,
     };
     Ok((can_hold, can_fail))
 }

@@ -4,7 +4,7 @@ use crate::cargo_refuses::{Rejected, rejected_by_cargo};
 use crate::deep::has_deep;
 use crate::dependency_rules::WorkspaceRoot;
 use cargo_platform::printable_text;
-use input_limits::{INPUT, strip_byte_order_mark};
+use input_limits::{STDIN_PATH, strip_byte_order_mark};
 use manifests::document;
 use manifests::reading::{Manifest, ManifestText, ReadError};
 use std::alloc::{AllocError, Global};
@@ -116,7 +116,7 @@ fn inherit<R: Files + Env + AllocGlobal>(
     document: &mut Document,
 ) -> Result<Option<Rejected>, AllocError> {
     let alloc = rt.alloc();
-    if path == INPUT || !inherits(&document.table) {
+    if path == STDIN_PATH || !inherits(&document.table) {
         let inheriting = WorkspaceRoot {
             is_known: false,
             workspace: None,

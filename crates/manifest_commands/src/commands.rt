@@ -12,7 +12,7 @@ use crate::target_names::{ALL_TARGETS, TargetsWithFlags, named_targets, targets_
 use crate::target_specs::with_custom_targets;
 use cargo_platform::printable_text;
 use clap::ArgMatches;
-use input_limits::{INPUT, InputError};
+use input_limits::{InputError, STDIN_PATH};
 use key_answers::answer::{Answer, QueryError, Status, answer_or_error};
 use key_answers::comparing::compare;
 use lint_fixes::FixOptions;
@@ -208,7 +208,7 @@ fn fixes_input(matches: &ArgMatches<'_>, paths: &[String]) -> bool {
         return false;
     }
     for path in paths {
-        if path.as_str() == INPUT {
+        if path.as_str() == STDIN_PATH {
             return true;
         }
     }

@@ -8,7 +8,7 @@ use crate::words::command_given;
 use cargo_platform::printable_text;
 use clap::ArgMatches;
 use graph_queries::query::{FeatureArguments, GraphArguments, Provenance};
-use input_limits::INPUT;
+use input_limits::STDIN_PATH;
 use key_answers::answer::{Answer, QueryError, answer_or_error};
 use manifest_answers::given_targets::GivenTargets;
 use std::alloc::{AllocError, Global};
@@ -136,7 +136,7 @@ fn answer_with<R: Files + Input + Env + AllocGlobal>(
     given: Option<&GivenTargets>,
     lock: Option<&NamedLock>,
 ) -> Result<Answer, AllocError> {
-    let file = matches.get_str("metadata").unwrap_or(INPUT);
+    let file = matches.get_str("metadata").unwrap_or(STDIN_PATH);
     let alloc = rt.alloc();
     let command = match matches.get_str("html") {
         Some(_) => command_given(rt)?,

@@ -2,7 +2,7 @@
 
 use cargo_platform::printable_text;
 use clap::ArgMatches;
-use input_limits::{InputError, LIMIT, read_file, read_input};
+use input_limits::{DEFAULT_LIMIT, InputError, read_file, read_input};
 use key_answers::answer::QueryError;
 use std::alloc::{AllocError, Global};
 use std::io::{self, ErrorKind};
@@ -10,7 +10,7 @@ use std::rt::Files;
 
 /// Returns the number of bytes that an input may have.
 pub fn limit_of(matches: &ArgMatches<'_>) -> u64 {
-    matches.get_one::<u64>("limit").unwrap_or(LIMIT)
+    matches.get_one::<u64>("limit").unwrap_or(DEFAULT_LIMIT)
 }
 
 /// Returns a message without `FILE: ` and `error: ` at its beginning, and without the line end.

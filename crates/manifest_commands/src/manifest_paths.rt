@@ -2,7 +2,7 @@
 
 use cargo_platform::printable_text;
 use clap::ArgMatches;
-use input_limits::{INPUT, InputError, read_input};
+use input_limits::{InputError, STDIN_PATH, read_input};
 use manifests::reading::ReadError;
 use std::alloc::{AllocError, Global};
 use std::rt::{Env, Files};
@@ -39,7 +39,7 @@ fn values(alloc: Global, matches: &ArgMatches<'_>, id: &str) -> Result<Vec<Strin
 
 /// Removes standard input from the arguments that name manifests.
 fn leave_out_input(files: &mut Vec<String>) {
-    files.retain(|file| file.as_str() != INPUT);
+    files.retain(|file| file.as_str() != STDIN_PATH);
 }
 
 /// Reads standard input as the manifest at a path, which is put into `documents`. Returns the path of the manifest.
@@ -50,7 +50,7 @@ fn manifest_given<R: Files + Input + AllocGlobal>(
     path: &str,
 ) -> Result<String, ReadError> {
     let alloc = rt.alloc();
-    match read_input(rt, INPUT, documents.limit) {
+    match read_input(rt, STDIN_PATH, documents.limit) {
         Ok(text) => Ok(put_text(rt, documents, path, text)?),
         Err(error) => {
             let path = printable_text(alloc, path)?;

@@ -4,7 +4,7 @@ use crate::other_rustc::OtherRustc;
 use crate::project_targets::ManifestFile;
 use diagnostics::{LintLevel, Occurrence, Rule};
 use former_names::Release;
-use input_limits::INPUT;
+use input_limits::STDIN_PATH;
 use lint_reports::Settings;
 use std::alloc::{AllocError, Global};
 use std::rt::{Env, Files};
@@ -88,8 +88,8 @@ impl Root {
         current: &Root,
     ) -> Result<Option<Root>, AllocError> {
         let alloc = rt.alloc();
-        let file = if path == INPUT {
-            String::from_str(alloc, INPUT)?
+        let file = if path == STDIN_PATH {
+            String::from_str(alloc, STDIN_PATH)?
         } else {
             let file = root_of(rt, documents, path)?;
             simplified_path(alloc, file.as_str())?

@@ -25,13 +25,13 @@ use Rattle.cargo_platform.specs.Facts.{Pair, FactSet, IsTrueCondition, pair_of, 
 use Rattle.cargo_platform.specs.Warnings.{values, members_values}
 use Rattle.cargo_platform.proofs.FactSets.{pairs_total}
 use Rattle.partial_facts.specs.Partly.{is_named}
-use Rattle.partial_facts.specs.OneValued.{is_single, is_value}
+use Rattle.partial_facts.specs.OneValued.{is_single, has_key}
 use Rattle.known_targets.specs.Listed.{some_below}
 use Rattle.known_targets.specs.Bits.{has}
 use Rattle.known_targets.specs.Sets.{is_member}
 use Rattle.known_targets.specs.Table.{target_name, target_facts}
 use Rattle.known_targets.specs.declared.target_set.TargetSet.{TargetSet}
-use Rattle.known_targets.specs.declared.table.TheConstants.{COUNT, WORDS}
+use Rattle.known_targets.specs.declared.table.TheConstants.{COUNT, SET_WORDS}
 use Rattle.exact_answers.specs.Families.{IsSetWithFamily}
 use Rattle.exact_answers.specs.declared.fact_constraints.FactConstraints.{FactConstraints}
 use Rattle.manifest_lints.specs.Samples.{AreTruths, is_set, truth_by, all_by, any_by, one_valued}
@@ -126,8 +126,8 @@ module _ (l : ℕ) (low : l < 64) where
     is_only_one (Some o) (Some v) (Some w) hv hw =
         ap Some ((bytes_eq-Decides v o).0 hv ∙ sym ((bytes_eq-Decides w o).0 hw))
 
-    value_too : (p q : Pair) → p.name ≡ q.name → is_some q.value ≡ true → is_value name p ≡ true
-        → is_value name q ≡ true
+    value_too : (p q : Pair) → p.name ≡ q.name → is_some q.value ≡ true → has_key name p ≡ true
+        → has_key name q ≡ true
     value_too p q names sq is = λ i.
         sq i && (sym (ap (λ n. bytes_eq n name) names) ∙ right_true (is_some p.value) (bytes_eq p.name name) is) i
 
@@ -135,7 +135,7 @@ module _ (l : ℕ) (low : l < 64) where
         → holds_with name only l p ≡ true → holds_with name only l q ≡ true → p ≡ q
     with_one p q sp sq names hp hq =
         let sp_value = right_true (is_named p.name one_valued) (is_some p.value) sp in
-        elim (is_value name p) as (λ b. is_value name p ≡ b → p ≡ q) [
+        elim (has_key name p) as (λ b. has_key name p ≡ b → p ≡ q) [
           | true ↦ λ is.
               let also = value_too p q names sq is in
               let values : p.value ≡ q.value =
@@ -143,8 +143,8 @@ module _ (l : ℕ) (low : l < 64) where
               (sym (with_key name only l q also) ∙ hq) in
               λ i. record { name = names i; value = values i }
           | false ↦ λ no.
-              let other : is_value name q ≡ false =
-              elim (is_value name q) as (λ b. is_value name q ≡ b → b ≡ false) [
+              let other : has_key name q ≡ false =
+              elim (has_key name q) as (λ b. has_key name q ≡ b → b ≡ false) [
                 | true ↦ λ e. absurd (true≢false (sym (value_too q p (sym names) sp_value e) ∙ no))
                 | false ↦ λ e. refl
               ] refl in
@@ -152,7 +152,7 @@ module _ (l : ℕ) (low : l < 64) where
               (sym (with_others name only l q other) ∙ hq)
         ] refl
 
-    no_family : (family : List ℕ) → is_value name (family_pair family) ≡ false
+    no_family : (family : List ℕ) → has_key name (family_pair family) ≡ false
     no_family family =
         elim (bytes_eq (codes "target_family") name) as (λ b. bytes_eq (codes "target_family") name ≡ b → b ≡ false) [
           | true ↦ λ e.
@@ -272,7 +272,7 @@ mutual
 -- a pair that is not the one tells the same, whether the key has the value of this one or none
 not_only : (l : ℕ) (p q : Pair) → same_pair p q ≡ false
     → holds_with p.name p.value l q ≡ holds_with p.name None l q
-not_only l p q other = elim (is_value p.name q) as (λ b. is_value p.name q ≡ b
+not_only l p q other = elim (has_key p.name q) as (λ b. has_key p.name q ≡ b
     → holds_with p.name p.value l q ≡ holds_with p.name None l q) [
       | true ↦ λ is.
           with_key p.name p.value l q is
@@ -512,7 +512,7 @@ module _ (old new : Keys) (m : Member) (class : Class) (number : Option ℕ) (e 
 -- ---- classes of expressions
 
 module _ (ws : List ℕ) (t : ℕ) (set : TargetSet) (e : Tree) (c : Condition)
-    (long : length ws ≡ WORDS) (small : (i : ℕ) → get_or ws i 0 < 2 ^ 64) (small_truths : t < 2 ^ 64)
+    (long : length ws ≡ SET_WORDS) (small : (i : ℕ) → get_or ws i 0 < 2 ^ 64) (small_truths : t < 2 ^ 64)
     (same : (k : ℕ) → k < COUNT → has ws k ≡ is_member set k) (behind : (k : ℕ) → COUNT ≤ k → has ws k ≡ false)
     (holds_at : (k : ℕ) → k < COUNT
     → IsTrue (is_member set k) ↔ IsTrueCondition (target_name k) (target_facts k) c)

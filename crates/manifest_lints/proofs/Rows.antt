@@ -14,7 +14,7 @@ use Rattle.known_targets.specs.Bits.{has}
 use Rattle.known_targets.specs.Rows.{Values, Keys, plain, has_name, has_value, has_pair}
 use Rattle.known_targets.specs.Listed.{some_below}
 use Rattle.known_targets.specs.Table.{table_keys, target_facts}
-use Rattle.known_targets.specs.declared.table.TheConstants.{COUNT, WORDS}
+use Rattle.known_targets.specs.declared.table.TheConstants.{COUNT, SET_WORDS}
 use Rattle.known_targets.proofs.Found.{has_name-contains, has_pair-contains}
 use Rattle.manifest_lints.specs.Samples.{is_set, one_valued, is_rustcs}
 use Rattle.manifest_lints.proofs.SetWords.{are_apart, none_more, set_or, left_true, right_true}
@@ -88,7 +88,7 @@ names_of_rows keys = map (λ key. key.0) keys
 unfoldable are_one_valued : Keys → Bool
 are_one_valued [] = true
 are_one_valued (key ∷ keys) =
-    (not (is_named key.0 one_valued) || all_below WORDS (λ j. are_apart 0 (words_at j key.2)))
+    (not (is_named key.0 one_valued) || all_below SET_WORDS (λ j. are_apart 0 (words_at j key.2)))
     && (not (is_named key.0 (names_of_rows keys)) && are_one_valued keys)
 
 not_so : (b : Bool) → not b ≡ true → b ≡ true → ⊥
@@ -110,13 +110,13 @@ one_row : (k : ℕ) (name v w : List ℕ) (keys : Keys) → k < COUNT → are_on
 unfolding are_one_valued
 one_row k name v w [] below rows one hv hw = absurd (true≢false (sym hv))
 one_row k name v w (key ∷ keys) below rows one hv hw =
-    let values = all_below WORDS (λ j. are_apart 0 (words_at j key.2)) in
+    let values = all_below SET_WORDS (λ j. are_apart 0 (words_at j key.2)) in
     let again = is_named key.0 (names_of_rows keys) in
     let apart : (not (is_named key.0 one_valued) || values) ≡ true =
     left_true (not (is_named key.0 one_valued) || values) (not again && are_one_valued keys) rows in
     let others : (not again && are_one_valued keys) ≡ true =
     right_true (not (is_named key.0 one_valued) || values) (not again && are_one_valued keys) rows in
-    let word : k / 64 < WORDS = omega arith in
+    let word : k / 64 < SET_WORDS = omega arith in
     let twice = λ (text : List ℕ) (is : bytes_eq name key.0 ≡ true) (h : has_pair k name text keys ≡ true).
     not_so again (left_true (not again) (are_one_valued keys) others)
     (subst (λ n. is_named n (names_of_rows keys) ≡ true) ((bytes_eq-Decides name key.0).0 is)
@@ -124,7 +124,7 @@ one_row k name v w (key ∷ keys) below rows one hv hw =
     either (v ≡ w) (bytes_eq name key.0 && has_value k v key.2) (has_pair k name v keys) hv
     (λ here. either (v ≡ w) (bytes_eq name key.0 && has_value k w key.2) (has_pair k name w keys) hw
     (λ also. one_text k 0 v w key.2
-    (below_all WORDS (λ j. are_apart 0 (words_at j key.2))
+    (below_all SET_WORDS (λ j. are_apart 0 (words_at j key.2))
     (either (values ≡ true) (not (is_named key.0 one_valued)) values apart
     (λ no. absurd (not_so (is_named key.0 one_valued) no
     (subst (λ n. is_named n one_valued ≡ true) ((bytes_eq-Decides name key.0).0 (left_true _ _ here)) one)))

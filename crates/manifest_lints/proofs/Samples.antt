@@ -15,7 +15,7 @@ use Rattle.cargo_platform.specs.Walk.{list_tree}
 use Rattle.cargo_platform.specs.Warnings.{values, members_values}
 use Rattle.cargo_platform.proofs.FactSets.{pairs_total}
 use Rattle.cargo_platform.proofs.FactTruths.{pair_tie}
-use Rattle.partial_facts.specs.OneValued.{is_single, is_value}
+use Rattle.partial_facts.specs.OneValued.{is_single, has_key}
 use Rattle.known_targets.specs.Groups.{both}
 use Rattle.known_targets.specs.Listed.{some_below}
 use Rattle.known_targets.specs.Table.{target_facts}
@@ -120,12 +120,12 @@ pub beside_none : (l : ℕ) (p : Pair) → holds_beside None l p ≡ holds l p
 unfolding holds_beside
 beside_none l p = refl
 
-pub with_others : (name : List ℕ) (only : Option (List ℕ)) (l : ℕ) (p : Pair) → is_value name p ≡ false
+pub with_others : (name : List ℕ) (only : Option (List ℕ)) (l : ℕ) (p : Pair) → has_key name p ≡ false
     → holds_with name only l p ≡ holds l p
 unfolding holds_with
 with_others name only l p is = ap (λ b. cond b (is_only only p.value) (holds l p)) is
 
-pub with_key : (name : List ℕ) (only : Option (List ℕ)) (l : ℕ) (p : Pair) → is_value name p ≡ true
+pub with_key : (name : List ℕ) (only : Option (List ℕ)) (l : ℕ) (p : Pair) → has_key name p ≡ true
     → holds_with name only l p ≡ is_only only p.value
 unfolding holds_with
 with_key name only l p is = ap (λ b. cond b (is_only only p.value) (holds l p)) is

@@ -9,7 +9,7 @@ use Rattle.cargo_platform.specs.Trees.{Tree, Condition, Expression, condition_of
 use Rattle.cargo_platform.specs.Facts.{truth}
 use Rattle.known_targets.specs.Bits.{has}
 use Rattle.known_targets.specs.Table.{target_facts}
-use Rattle.known_targets.specs.declared.table.TheConstants.{COUNT, WORDS}
+use Rattle.known_targets.specs.declared.table.TheConstants.{COUNT, SET_WORDS}
 use Rattle.exact_answers.specs.declared.fact_constraints.FactConstraints.{FactConstraints}
 use Rattle.manifest_lints.specs.Samples.{AreTruths, holds_beside}
 use Rattle.manifest_lints.specs.Numbers.{IsNumberOf}
@@ -23,7 +23,7 @@ use Rattle.manifest_lints.specs.declared.earlier.Keys.{Keys}
 -- the contents of the class of an expression: the known targets on which it is true, and its truth values over the
 -- sampled sets
 pub record IsClassOf (e : Tree) (class : Class) : Type 0 where
-  pub long : length class.targets ≡ WORDS
+  pub long : length class.targets ≡ SET_WORDS
   pub small : (i : ℕ) → get_or class.targets i 0 < 2 ^ 64
   pub at_targets : (k : ℕ) → k < COUNT → has class.targets k ≡ truth (target_facts k) e
   pub behind : (k : ℕ) → COUNT ≤ k → has class.targets k ≡ false

@@ -6,7 +6,7 @@ use Rattle.std.specs.Int.{bit_at}
 use Rattle.std.specs.FinSet.{contains}
 use Rattle.cargo_platform.specs.Trees.{Tree, Not, All, Any, Value, True, False, Trees, none, tree}
 use Rattle.cargo_platform.specs.Facts.{Pair, pair_of}
-use Rattle.partial_facts.specs.OneValued.{is_single, is_value}
+use Rattle.partial_facts.specs.OneValued.{is_single, has_key}
 use Rattle.partial_facts.specs.declared.one_valued.TheConstants.{ONE_VALUED}
 use Rattle.known_targets.specs.Listed.{some_below}
 use Rattle.known_targets.specs.Table.{target_facts}
@@ -88,7 +88,7 @@ is_only (Some only) (Some value) = bytes_eq value only
 
 -- the same as `holds` if a key has only this value, or none
 unfoldable pub holds_with : List ℕ → Option (List ℕ) → ℕ → Pair → Bool
-holds_with name only l p = cond (is_value name p) (is_only only p.value) (holds l p)
+holds_with name only l p = cond (has_key name p) (is_only only p.value) (holds l p)
 
 -- the value as a text, if there is one
 abbrev pub text_of : Option (Bor (List ℕ)) → Option (List ℕ)

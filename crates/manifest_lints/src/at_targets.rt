@@ -11,7 +11,7 @@ ghost use Rattle.manifest_lints.specs.AtTargets.{SettlesOn};
 use crate::deciding::{Decided, FEW, is_always, is_never, is_yes};
 use cargo_platform::{CfgExpr, Platform};
 use exact_answers::FactConstraints;
-use known_targets::{OpenTarget, TargetSet, certainly_matching, possibly_matching};
+use known_targets::{PartialTarget, TargetSet, certainly_matching, possibly_matching};
 use partial_facts::residual_platform;
 use std::alloc::{AllocError, Global};
 
@@ -43,7 +43,7 @@ fn never_free<'a>(
 fn never_at(
     alloc: Global,
     platform: &Platform,
-    at: OpenTarget<'_>,
+    at: PartialTarget<'_>,
     truth: bool,
 ) -> Result<Decided, AllocError>
     ensures { IfOk result (λ d. SaysNeverAt truth d (names_of at.entry.open_keys.now) (condition_of platform.now)
@@ -75,7 +75,7 @@ fn is_never_on<'a>(
         (λ b. b ≡ false → MayBeIn truth targets (names_of open_keys.now) (condition_of platform.now)) }
 {
     'targets: for target in targets.iter() {
-        let at = OpenTarget { target, open_keys };
+        let at = PartialTarget { target, open_keys };
         let decided = never_at(alloc, platform, at, truth)?;
         if !is_yes(decided) {
             return Ok(false);

@@ -9,7 +9,9 @@ ghost use Rattle.manifest_lints.specs.Truths.{IsNever, IsAlways, CanHold, CanFai
 
 use crate::shown_by_samples::is_shown;
 use cargo_platform::{Platform, nesting_beyond};
-use exact_answers::{CanSelect, FactConstraints, MustSelect, always_platform, can_hold_platform};
+use exact_answers::{
+    FactConstraints, Satisfiability, Validity, always_platform, can_hold_platform,
+};
 use std::alloc::{AllocError, Global};
 
 /// The maximum number of case splits in a search for a condition of at most `FEW` facts. With more facts it is lower.
@@ -88,9 +90,9 @@ pub fn is_never<'a>(
         (λ d. IsTrue (is_unknown d) → NeedsMoreFor known.now (condition_of platform.now) budget) }
 {
     match can_hold_platform(alloc, platform, known, budget)? {
-        CanSelect::No => Ok(Decided::Yes),
-        CanSelect::Yes(_) => Ok(Decided::No),
-        CanSelect::Undecided => unless_shown(alloc, platform, known, true),
+        Satisfiability::No => Ok(Decided::Yes),
+        Satisfiability::Yes(_) => Ok(Decided::No),
+        Satisfiability::Undecided => unless_shown(alloc, platform, known, true),
     }
 }
 
@@ -107,9 +109,9 @@ pub fn is_always<'a>(
         (λ d. IsTrue (is_unknown d) → NeedsMoreFor known.now (condition_of platform.now) budget) }
 {
     match always_platform(alloc, platform, known, budget)? {
-        MustSelect::Yes => Ok(Decided::Yes),
-        MustSelect::No(_) => Ok(Decided::No),
-        MustSelect::Undecided => unless_shown(alloc, platform, known, false),
+        Validity::Yes => Ok(Decided::Yes),
+        Validity::No(_) => Ok(Decided::No),
+        Validity::Undecided => unless_shown(alloc, platform, known, false),
     }
 }
 

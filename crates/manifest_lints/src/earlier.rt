@@ -14,8 +14,8 @@ ghost use Rattle.manifest_lints.specs.Classes.{TellsNoneEquivalent};
 
 use crate::sample_sets::{equivalence_fingerprint, truths};
 use cargo_platform::{CfgExpr, Platform};
-use exact_answers::{FactConstraints, MustSelect, equivalent_platform};
-use known_targets::{WORDS, matching};
+use exact_answers::{FactConstraints, Validity, equivalent_platform};
+use known_targets::{SET_WORDS, matching};
 use std::alloc::{AllocError, Global};
 use std::collections::BTreeMap;
 
@@ -82,7 +82,7 @@ impl Earlier {
 #[derive(Clone, Copy, Debug, PartialEq, Eq, PartialOrd, Ord, Drop)]
 struct Class {
     // The known targets on which they are true.
-    targets: [u64; WORDS],
+    targets: [u64; SET_WORDS],
     // Their truth values over the sampled sets of facts.
     truths: u64,
     part: Part,
@@ -296,9 +296,9 @@ impl<'a> Keys<'a> {
                 continue;
             };
             match equivalent_platform(alloc, *other, platform, known, splits)? {
-                MustSelect::Yes => return Ok(Earlier::Equivalent(*first)),
-                MustSelect::No(_) => {}
-                MustSelect::Undecided => return Ok(Earlier::Undecided),
+                Validity::Yes => return Ok(Earlier::Equivalent(*first)),
+                Validity::No(_) => {}
+                Validity::Undecided => return Ok(Earlier::Undecided),
             }
         }
         Ok(Earlier::Unlike)

@@ -5,7 +5,7 @@ ghost use Rattle.std.specs.Prelude.{IfOk, IfSome, IfNone};
 ghost use Rattle.std.specs.FinSet.{contains};
 ghost use Rattle.cargo_platform.specs.Trees.{Expression, value_of, tree_of, condition_of};
 ghost use Rattle.cargo_platform.specs.Facts.{fact_set, pair_of, truth_of_condition};
-ghost use Rattle.partial_facts.specs.OneValued.{is_single, is_value};
+ghost use Rattle.partial_facts.specs.OneValued.{is_single, has_key};
 ghost use Rattle.partial_facts.specs.Partly.{names_of};
 ghost use Rattle.known_targets.specs.Groups.{both};
 ghost use Rattle.known_targets.specs.Sets.{is_member};
@@ -122,7 +122,7 @@ fn truths_beside(other: Other<'_>, c: &Cfg) -> u64
 
 /// Returns whether the fact is a value of this key.
 fn is_value_of(c: &Cfg, key: &str) -> bool
-    ensures { result ≡ is_value key.now (pair_of (value_of c.now)) }
+    ensures { result ≡ has_key key.now (pair_of (value_of c.now)) }
 {
     match c {
         Cfg::Name(_) => false,

@@ -8,7 +8,7 @@ use Rattle.std.proofs.lemmas.List.{append-nil, take-map, length-map}
 use Rattle.std.proofs.lemmas.List.Folds.{flat_map-map}
 use Rattle.manifest_lints_findings.specs.Messages.{said}
 use Rattle.manifest_lints_findings.specs.Texts.{StandsIn, Mentions, and_more, joined_first}
-use Rattle.manifest_lints_findings.specs.declared.wording.TheConstants.{MOST_SHOWN}
+use Rattle.manifest_lints_findings.specs.declared.wording.TheConstants.{MAX_SHOWN}
 
 stands_behind : (t before m rest : List ℕ) → StandsIn t m rest → StandsIn t (before ++ m) rest
 stands_behind t before m rest s = record {
@@ -45,7 +45,7 @@ module _ {X : Type 0} (text : X → List ℕ) (mark : List ℕ) where
 
   pub joined_texts : (xs : List X) → joined_first text mark xs ≡ joined_first (λ t. t) mark (map text xs)
   joined_texts xs =
-      let few = join_map (take MOST_SHOWN xs) ∙ ap (join_by (λ t. t) mark) (sym (take-map text MOST_SHOWN xs)) in
+      let few = join_map (take MAX_SHOWN xs) ∙ ap (join_by (λ t. t) mark) (sym (take-map text MAX_SHOWN xs)) in
       (λ i. few i ++ and_more (sym (length-map xs text) i))
 
 -- ---- parts of a message

@@ -3,7 +3,7 @@ use Rattle.std.specs.Prelude.{◌≡◌, List, [], ◌∷◌}
 use Rattle.manifest_lints_findings.specs.declared.codes.KeyLint.{KeyLint}
 use Rattle.manifest_lints_findings.specs.declared.codes.KeyLint.TheVariants as code
 use Rattle.manifest_lints_findings.specs.declared.codes.TheConstants.{KEY_LINTS}
-use Rattle.manifest_lints_findings.specs.declared.wording.TheConstants.{MOST_SHOWN}
+use Rattle.manifest_lints_findings.specs.declared.wording.TheConstants.{MAX_SHOWN}
 
 -- all lints, each once, in the order in which they are reported for one key
 abbrev pub all_codes : List KeyLint
@@ -17,4 +17,4 @@ AreAllCodes = KEY_LINTS ≡ all_codes
 
 -- the number of items of a list that are printed
 abbrev pub IsMostShown : Type 0
-IsMostShown = MOST_SHOWN ≡ 3
+IsMostShown = MAX_SHOWN ≡ 3

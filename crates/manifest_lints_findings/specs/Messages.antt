@@ -20,7 +20,7 @@ use Rattle.manifest_lints_findings.specs.declared.known_keys.AnalysedKey.{Analys
 use Rattle.manifest_lints_findings.specs.declared.readings.CargoReading.{CargoReading}
 use Rattle.manifest_lints_findings.specs.declared.readings.KeyMeaning.{KeyMeaning}
 use Rattle.manifest_lints_findings.specs.declared.readings.KeyMeaning.TheVariants as spelled
-use Rattle.manifest_lints_findings.specs.declared.wording.TheConstants.{MOST_SHOWN}
+use Rattle.manifest_lints_findings.specs.declared.wording.TheConstants.{MAX_SHOWN}
 
 -- ---- parts of messages
 
@@ -68,7 +68,7 @@ IsFaultText key (spelled.ByCargo m) reason = reason ≡ []
 
 -- Cargo's first warnings on the key, and the number of the others
 abbrev pub cargo_words : CargoReading → List ℕ
-cargo_words m = shown_whole (join_by (λ s. string_bytes s) (codes " ") (take MOST_SHOWN m.warnings.items) ++ and_more m.count)
+cargo_words m = shown_whole (join_by (λ s. string_bytes s) (codes " ") (take MAX_SHOWN m.warnings.items) ++ and_more m.count)
 
 -- the names that lose their raw mark, unless only Cargo accepts the key
 abbrev pub unmarked_text : List KeyPredicate → List ℕ

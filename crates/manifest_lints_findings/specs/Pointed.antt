@@ -19,7 +19,7 @@ use Rattle.manifest_lints_findings.specs.declared.codes.Level.TheVariants as lev
 use Rattle.manifest_lints_findings.specs.declared.findings.Finding.{Finding}
 use Rattle.manifest_lints_findings.specs.declared.known_keys.AnalysedKey.{AnalysedKey}
 use Rattle.manifest_lints_findings.specs.declared.pointing.SecondarySpans.{SecondarySpans}
-use Rattle.manifest_lints_findings.specs.declared.wording.TheConstants.{MOST_SHOWN}
+use Rattle.manifest_lints_findings.specs.declared.wording.TheConstants.{MAX_SHOWN}
 
 -- the names and pairs that a diagnostic of this lint is about
 abbrev pub choice_of : KeyLint → Option Choice
@@ -36,7 +36,7 @@ spans_in fs = flat_map (λ f. option_to_list f.span) fs
 -- the first of these spans
 abbrev pub spans_of : Option Choice → List KeyPredicate → List Span
 spans_of None fs = []
-spans_of (Some c) fs = take MOST_SHOWN (spans_in (chosen c fs))
+spans_of (Some c) fs = take MAX_SHOWN (spans_in (chosen c fs))
 
 -- the names of the fields that a diagnostic of this lint is about
 abbrev pub fields_of : KeyLint → Data → List (List ℕ)

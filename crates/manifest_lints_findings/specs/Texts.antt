@@ -5,7 +5,7 @@ use Rattle.std.specs.Fmt.{decimal}
 use Rattle.std.specs.List.{join_by}
 use Rattle.std.specs.Str.{chars}
 use Rattle.cargo_platform.specs.Snippets.{shown, shown_line}
-use Rattle.manifest_lints_findings.specs.declared.wording.TheConstants.{MOST_SHOWN}
+use Rattle.manifest_lints_findings.specs.declared.wording.TheConstants.{MAX_SHOWN}
 
 -- a text as it is displayed, as a whole, and shortened
 abbrev pub shown_whole : List ℕ → List ℕ
@@ -38,8 +38,8 @@ Mentions (t ∷ ts) message = (rest : List ℕ) × StandsIn t message rest × Me
 
 -- the number of the others; empty if all are printed
 abbrev pub and_more : ℕ → List ℕ
-and_more all = cond (nat_lt MOST_SHOWN all) (codes " and " ++ (decimal (all - MOST_SHOWN) ++ codes " more")) []
+and_more all = cond (nat_lt MAX_SHOWN all) (codes " and " ++ (decimal (all - MAX_SHOWN) ++ codes " more")) []
 
 -- the texts of the first ones with a separator between them, and the number of the others
 abbrev pub joined_first : {X : Type 0} → (X → List ℕ) → List ℕ → List X → List ℕ
-joined_first text mark xs = join_by text mark (take MOST_SHOWN xs) ++ and_more (length xs)
+joined_first text mark xs = join_by text mark (take MAX_SHOWN xs) ++ and_more (length xs)

@@ -9,7 +9,7 @@ use crate::chosen::{Choice, chosen};
 use crate::codes::KeyLint;
 use crate::known_keys::AnalysedKey;
 use crate::no_tables::no_table_fields;
-use crate::wording::MOST_SHOWN;
+use crate::wording::MAX_SHOWN;
 use predicate_classes::classes::Category;
 use predicate_classes::key_predicates::KeyPredicate;
 use std::alloc::{AllocError, Global};
@@ -79,7 +79,7 @@ fn facts_at_fault(
     };
     let at_fault = chosen(alloc, predicates, choice)?;
     let mut spans = spans_in(alloc, &at_fault)?;
-    spans.truncate(MOST_SHOWN);
+    spans.truncate(MAX_SHOWN);
     Ok(spans)
 }
 

@@ -4,7 +4,7 @@ ghost use Rattle.std.specs.Prelude.{◌≡◌, IfOk};
 ghost use Rattle.manifests.specs.Entries.{entry_of};
 ghost use Rattle.manifest_lints_findings.specs.Spells.{IsSpelledAs, IsRead, entry_read};
 
-use crate::wording::MOST_SHOWN;
+use crate::wording::MAX_SHOWN;
 use cargo_platform::{Cfg, CfgExpr, ParseError, Platform, ReadError, Token, Tokenizer, inside_cfg};
 use manifests::TargetKey;
 use predicate_classes::rustc_names::pair;
@@ -120,7 +120,7 @@ impl<'a> Marking<'a> {
     /// Records a pair, with Cargo's warning on it if it is one of the first.
     fn note(&mut self, alloc: Global, key: &str, value: &str) -> Result<(), AllocError> {
         let is_new = self.pairs.insert(pair(alloc, key, value)?)?;
-        if is_new && self.pairs.len() <= MOST_SHOWN {
+        if is_new && self.pairs.len() <= MAX_SHOWN {
             self.warnings.push(warning_on(alloc, key, value)?)?;
         }
         Ok(())

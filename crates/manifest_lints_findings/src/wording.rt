@@ -5,14 +5,14 @@ ghost use Rattle.std.specs.List.{join_by};
 ghost use Rattle.cargo_platform.specs.Trees.{value_of};
 ghost use Rattle.manifest_lints_findings.specs.Chosen.{fact_text, quoted_value};
 ghost use Rattle.manifest_lints_findings.specs.Texts.{quoted_text, and_more, joined_first, both_texts};
-ghost use Rattle.manifest_lints_findings.specs.declared.wording.TheConstants.{MOST_SHOWN};
+ghost use Rattle.manifest_lints_findings.specs.declared.wording.TheConstants.{MAX_SHOWN};
 
 use cargo_platform::{Cfg, printable_excerpt};
 use predicate_classes::key_predicates::KeyPredicate;
 use std::alloc::{AllocError, Global};
 
 /// The maximum number of items of a list that are printed.
-pub const MOST_SHOWN: usize = 3;
+pub const MAX_SHOWN: usize = 3;
 
 /// Returns the text in backquotes, escaped and shortened. Fails if memory is refused.
 pub fn quoted(alloc: Global, text: &str) -> Result<String, AllocError>
@@ -30,12 +30,12 @@ pub fn quoted_fact(alloc: Global, c: &Cfg) -> Result<String, AllocError>
     quoted(alloc, text.as_str())
 }
 
-/// Returns the first items, at most `MOST_SHOWN`.
+/// Returns the first items, at most `MAX_SHOWN`.
 pub fn first_shown<T>(all: &[T]) -> &[T]
-    ensures { result.now ≡ take MOST_SHOWN all.now }
+    ensures { result.now ≡ take MAX_SHOWN all.now }
 {
-    if all.len() > MOST_SHOWN {
-        &all[..MOST_SHOWN]
+    if all.len() > MAX_SHOWN {
+        &all[..MAX_SHOWN]
     } else {
         all
     }
@@ -46,17 +46,17 @@ pub fn first_shown<T>(all: &[T]) -> &[T]
 pub fn and_more(alloc: Global, all: usize) -> Result<String, AllocError>
     ensures { IfOk result (λ s. string_bytes s ≡ and_more all) }
 {
-    if all <= MOST_SHOWN {
+    if all <= MAX_SHOWN {
         return Ok(String::new(alloc));
     }
-    let more = all - MOST_SHOWN;
+    let more = all - MAX_SHOWN;
     format!(in alloc; " and {more} more")
 }
 
 /// Returns the first texts, with `separator` between them.
 fn first_joined(alloc: Global, texts: &[String], separator: &str) -> Result<String, AllocError>
     ensures { IfOk result (λ s. string_bytes s
-        ≡ join_by (λ t. string_bytes t) separator.now (take MOST_SHOWN texts.now)) }
+        ≡ join_by (λ t. string_bytes t) separator.now (take MAX_SHOWN texts.now)) }
 {
     let mut joined = String::new(alloc);
     let Some((first, others)) = first_shown(texts).split_first() else {
@@ -79,7 +79,7 @@ pub fn joined(
     separator: &str,
 ) -> Result<String, AllocError>
     ensures { IfOk result (λ s. string_bytes s
-        ≡ join_by (λ t. string_bytes t) separator.now (take MOST_SHOWN texts.now) ++ and_more all) }
+        ≡ join_by (λ t. string_bytes t) separator.now (take MAX_SHOWN texts.now) ++ and_more all) }
 {
     let mut joined = first_joined(alloc, texts, separator)?;
     let more = and_more(alloc, all)?;

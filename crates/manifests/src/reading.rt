@@ -3,7 +3,7 @@
 use crate::document::Document;
 use crate::key_locations::Location;
 use cargo_platform::printable_text;
-use input_limits::{INPUT, InputError, read_input, strip_byte_order_mark};
+use input_limits::{InputError, STDIN_PATH, read_input, strip_byte_order_mark};
 use std::alloc::{AllocError, Global};
 use std::fs;
 use std::io::ErrorKind;
@@ -86,7 +86,7 @@ impl From<AllocError> for ReadError {
 /// Returns the file that a path names. For a folder it is its `Cargo.toml`.
 fn file_at<R: Files + AllocGlobal>(rt: &R, path: &str) -> Result<String, AllocError> {
     let alloc = rt.alloc();
-    if path != INPUT {
+    if path != STDIN_PATH {
         if let Ok(found) = fs::metadata(rt, path) {
             if found.is_dir() {
                 let path = path.strip_suffix("/").unwrap_or(path);

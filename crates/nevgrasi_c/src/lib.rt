@@ -25,10 +25,10 @@ ghost use Rattle.byte_graphs.specs.Documents.{IsGraph, IsDeepGraph, IsUnusable};
 ghost use Rattle.byte_commands.specs.Answers.{IsAnswer};
 
 use byte_answers::{
-    DONE, MOST_FLAT_BYTES, NO_MEMORY, NOT_FLAT, NOT_UTF8, Outcome, REFUSED, Relation, TOO_DEEP,
+    DONE, MAX_FLAT_BYTES, NO_MEMORY, NOT_FLAT, NOT_UTF8, Outcome, REFUSED, Relation, TOO_DEEP,
     UNDECIDED, UNKNOWN_TARGET, VERSION,
 };
-use known_targets::{COUNT, WORDS};
+use known_targets::{COUNT, SET_WORDS};
 use std::alloc::Global;
 
 /// The version of the interface. It rises whenever a caller of an earlier version may break.
@@ -183,7 +183,7 @@ pub extern "C" fn nevgrasi_match_keys(
 pub extern "C" fn nevgrasi_targets(
     alloc: Global,
     key: &[u8],
-    words: &mut [u64; WORDS],
+    words: &mut [u64; SET_WORDS],
     out: &mut [u8],
     outcome: &mut Outcome,
 ) -> u32
@@ -420,7 +420,7 @@ pub extern "C" fn nevgrasi_flat_print(
 ) -> u32
     ensures done { result ≡ DONE → IsPrint flat.now outcome.new.needed out.old out.new }
     ensures not_flat { result ≡ NOT_FLAT → IsFlatForm flat.now → ⊥ }
-    ensures too_deep { result ≡ TOO_DEEP ↔ MOST_FLAT_BYTES < length flat.now }
+    ensures too_deep { result ≡ TOO_DEEP ↔ MAX_FLAT_BYTES < length flat.now }
     ensures silent { result ≢ DONE → IsSilent outcome.new out.old out.new }
     ensures argument { outcome.new.argument ≡ 0 }
     ensures codes { IsTrue (ends_flat_print result) }
@@ -447,7 +447,7 @@ pub extern "C" fn nevgrasi_flat_matches(
     ensures refused_bytes { result ≡ NOT_FLAT → IsTrue (outcome.new.argument == 0 || outcome.new.argument == 2) }
     ensures not_utf8 { result ≡ NOT_UTF8 → IsUtf8 name.now → ⊥ }
     ensures utf8 { result ≡ DONE → IsUtf8 name.now }
-    ensures too_deep { result ≡ TOO_DEEP ↔ MOST_FLAT_BYTES < length flat.now }
+    ensures too_deep { result ≡ TOO_DEEP ↔ MAX_FLAT_BYTES < length flat.now }
     ensures not_utf8_name { result ≡ NOT_UTF8 → outcome.new.argument ≡ 1 }
     ensures too_deep_flat { result ≡ TOO_DEEP → outcome.new.argument ≡ 0 }
     ensures silent { outcome.new.needed ≡ 0 }

@@ -7,7 +7,7 @@ use Rattle.known_targets.specs.declared.known.KnownTarget.{KnownTarget}
 use Rattle.package_graphs.specs.Following.{IsFollowedTo}
 use Rattle.package_graphs.specs.Kinds.{is_followed}
 use Rattle.package_graphs.specs.Packages.{is_root, is_macro, is_on, is_same, evaluated_at, side_after}
-use Rattle.package_graphs.specs.declared.package_sets.PackageSets.{PackageSets}
+use Rattle.package_graphs.specs.declared.package_sets.PackageTargets.{PackageTargets}
 use Rattle.package_graphs.specs.declared.packages.Dependency.{Dependency}
 use Rattle.package_graphs.specs.declared.packages.Kinds.{Kinds}
 use Rattle.package_graphs.specs.declared.packages.Package.{Package}
@@ -30,12 +30,12 @@ from_side at Target h = or_left (at Target) (at Host) h
 from_side at Host h = or_right (at Target) (at Host) h
 
 -- true if the dependency d leads from the side `on` of a package to the side `to`
-abbrev pub leads_with : PackageSets → Option KnownTarget → Bool → ℕ → Dependency → Side → ℕ → Side → Bool
+abbrev pub leads_with : PackageTargets → Option KnownTarget → Bool → ℕ → Dependency → Side → ℕ → Side → Bool
 leads_with sets host is_macro from d to k on =
     is_same (side_after on d.kind is_macro) to
     && (is_on sets from on k && is_member d.holds (evaluated_at host k on d.kind))
 
-module _ (sets : PackageSets) (packages : List Package) (kinds : Kinds) (host : Option KnownTarget) (from : ℕ)
+module _ (sets : PackageTargets) (packages : List Package) (kinds : Kinds) (host : Option KnownTarget) (from : ℕ)
     (d : Dependency) (to : Side) (k : ℕ) where
   abbrev pub leads_from : Side → Bool
   leads_from on = leads_with sets host (is_macro packages d.to) from d to k on

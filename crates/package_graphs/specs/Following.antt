@@ -8,11 +8,11 @@ use Rattle.package_graphs.specs.declared.packages.Kinds.{Kinds}
 use Rattle.package_graphs.specs.declared.packages.Dependency.{Dependency}
 use Rattle.package_graphs.specs.declared.packages.Package.{Package}
 use Rattle.package_graphs.specs.declared.sides.Side.{Side}
-use Rattle.package_graphs.specs.declared.package_sets.PackageSets.{PackageSets}
+use Rattle.package_graphs.specs.declared.package_sets.PackageTargets.{PackageTargets}
 
 -- the package is in the build for one side on the target k, and from there the dependency is followed and its condition
 -- is true
-pub record IsFollowedAt (sets : PackageSets) (packages : List Package) (kinds : Kinds) (host : Option KnownTarget)
+pub record IsFollowedAt (sets : PackageTargets) (packages : List Package) (kinds : Kinds) (host : Option KnownTarget)
     (from : ℕ) (d : Dependency) (k : ℕ) : Type 0 where
   pub on : Side
   pub there : IsTrue (is_on sets from on k)
@@ -20,7 +20,7 @@ pub record IsFollowedAt (sets : PackageSets) (packages : List Package) (kinds : 
   pub holds : IsTrue (is_member d.holds (evaluated_at host k on d.kind))
 
 -- and it leads to a package that is built for the side
-pub record IsFollowedTo (sets : PackageSets) (packages : List Package) (kinds : Kinds) (host : Option KnownTarget)
+pub record IsFollowedTo (sets : PackageTargets) (packages : List Package) (kinds : Kinds) (host : Option KnownTarget)
     (from : ℕ) (d : Dependency) (to : Side) (k : ℕ) : Type 0 where
   pub follows : IsFollowedAt sets packages kinds host from d k
   pub leads : side_after follows.on d.kind (is_macro packages d.to) ≡ to

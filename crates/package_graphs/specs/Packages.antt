@@ -14,7 +14,7 @@ use Rattle.package_graphs.specs.declared.packages.Dependency.{Dependency}
 use Rattle.package_graphs.specs.declared.packages.Package.{Package}
 use Rattle.package_graphs.specs.declared.sides.Side.{Side}
 use Rattle.package_graphs.specs.declared.sides.Side.TheVariants.{Target, Host}
-use Rattle.package_graphs.specs.declared.package_sets.PackageSets.{PackageSets}
+use Rattle.package_graphs.specs.declared.package_sets.PackageTargets.{PackageTargets}
 
 -- types, as laws and callers name them
 abbrev pub Packages : Type 0
@@ -131,8 +131,8 @@ pub record IsPlain (packages : List Package) : Type 0 where
   pub no_macro : (p : ℕ) → is_macro packages p ≡ false
 
 -- true if the sets of a package have the target k, on a side
-abbrev pub is_on : PackageSets → ℕ → Side → ℕ → Bool
+abbrev pub is_on : PackageTargets → ℕ → Side → ℕ → Bool
 is_on sets p from k = is_in sets.sets.items (node_of p from) k
 
-abbrev pub is_at : PackageSets → ℕ → ℕ → Bool
+abbrev pub is_at : PackageTargets → ℕ → ℕ → Bool
 is_at sets p k = is_on sets p Target k || is_on sets p Host k

@@ -7,13 +7,13 @@ ghost use Rattle.package_graphs.specs.Packages.{is_root, is_macro, is_on, is_sam
 ghost use Rattle.package_graphs.specs.Following.{IsFollowedAt, IsFollowedTo};
 ghost use Rattle.package_graphs.specs.Inside.Numbered.{IsTraversalQuery};
 
-use crate::package_sets::PackageSets;
+use crate::package_sets::PackageTargets;
 use crate::packages::{Dependency, Kinds, Package};
 use crate::sides::Side;
 use crate::two_sided_graph::TraversalQuery;
 use known_targets::{KnownTarget, TargetSet};
 
-/// What `present_packages` was called with.
+/// What `package_targets` was called with.
 #[derive(Clone, Copy)]
 pub struct PackageQuery<'a> {
     pub packages: &'a [Package],
@@ -28,9 +28,9 @@ struct Destination {
     side: Side,
 }
 
-impl PackageSets {
+impl PackageTargets {
     /// Returns the targets on which a dependency of the package at index `from` is followed: the package is in the
-    /// build, and the condition of the dependency is true. `query` has the arguments with which `present_packages`
+    /// build, and the condition of the dependency is true. `query` has the arguments with which `package_targets`
     /// returned these sets.
     pub fn following(
         &self,
@@ -55,7 +55,7 @@ impl PackageSets {
     }
 
     /// Returns the targets on which a dependency of the package at index `from` is followed to a package that is built
-    /// for the side `to`. `query` has the arguments with which `present_packages` returned these sets.
+    /// for the side `to`. `query` has the arguments with which `package_targets` returned these sets.
     pub fn following_to(
         &self,
         query: PackageQuery<'_>,

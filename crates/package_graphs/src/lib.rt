@@ -14,8 +14,8 @@ mod two_sided_graph;
 
 pub use following::PackageQuery;
 pub use graph::{Edge, Graph};
-pub use package_sets::{PackageSets, present_packages};
+pub use package_sets::{PackageTargets, package_targets};
 pub use packages::{Dependency, Kind, Kinds, Package};
 pub use paths::{PathQuery, PathTo, Step, shortest_path, shortest_path_on, shortest_paths};
-pub use presence::present;
+pub use presence::reached_targets;
 pub use sides::Side;

@@ -6,7 +6,7 @@ ghost use Rattle.known_targets.specs.declared.table.TheConstants.{COUNT};
 ghost use Rattle.package_graphs.specs.Packages.{Sided, IsThere, IsThereOn, is_on, is_at};
 
 use crate::packages::{Kinds, Package};
-use crate::presence::present;
+use crate::presence::reached_targets;
 use crate::sides::Side;
 use crate::two_sided_graph::{TraversalQuery, node_of};
 use known_targets::{KnownTarget, TargetSet};
@@ -14,11 +14,11 @@ use std::alloc::{AllocError, Global};
 
 /// For each package, the targets on which it is in the build, for the target and for the host.
 #[derive(Drop)]
-pub struct PackageSets {
+pub struct PackageTargets {
     sets: Vec<TargetSet>,
 }
 
-impl PackageSets {
+impl PackageTargets {
     /// Returns the targets on which the package at an index is in the build for this side.
     pub fn on(&self, index: usize, side: Side) -> TargetSet
         // The result is the set of the package for the side.
@@ -50,12 +50,12 @@ impl PackageSets {
 /// Without a host, the condition of each dependency is decided for the target. With one, the conditions of what build
 /// scripts and procedural macros need are decided for the host. A dependency on no package is ignored. Fails only if an
 /// allocation fails.
-pub fn present_packages(
+pub fn package_targets(
     alloc: Global,
     packages: &[Package],
     kinds: Kinds,
     host: Option<KnownTarget>,
-) -> Result<PackageSets, AllocError>
+) -> Result<PackageTargets, AllocError>
     // A target is in the set of a package, for a side, exactly if dependencies whose conditions are true lead there
     // from a root.
     ensures exact { IfOk result (λ sets. (n : Sided) (k : ℕ) → n.0 < length packages.now → k < COUNT
@@ -67,7 +67,7 @@ pub fn present_packages(
     let traversal = TraversalQuery::new(kinds, host);
     let graph = traversal.graph(alloc, packages)?;
     let roots = traversal.roots(alloc, packages)?;
-    Ok(PackageSets {
-        sets: present(alloc, &graph, &roots)?,
+    Ok(PackageTargets {
+        sets: reached_targets(alloc, &graph, &roots)?,
     })
 }

@@ -48,7 +48,7 @@ struct Search<'a> {
 
 /// Returns the steps of a shortest path from a root to the package at index `to`, each along a dependency whose
 /// condition is true on the target. For a root there are no steps. Returns `None` if no path leads to the package, or
-/// `to` is past the end. `packages`, `kinds` and `host` are those of `present_packages`. Fails only if an allocation
+/// `to` is past the end. `packages`, `kinds` and `host` are those of `package_targets`. Fails only if an allocation
 /// fails.
 pub fn shortest_path(
     alloc: Global,

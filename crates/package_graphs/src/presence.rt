@@ -19,7 +19,11 @@ use std::alloc::{AllocError, Global};
 ///
 /// The edges of a node are visited again only after its set has grown. A root that is not a node is ignored, and so is
 /// an edge to none. Fails only if an allocation fails.
-pub fn present(alloc: Global, graph: &Graph, roots: &[usize]) -> Result<Vec<TargetSet>, AllocError>
+pub fn reached_targets(
+    alloc: Global,
+    graph: &Graph,
+    roots: &[usize],
+) -> Result<Vec<TargetSet>, AllocError>
     // Each node has a set.
     ensures count { IfOk result (λ sets. vec_len sets ≡ length (edge_lists graph.now)) }
     // A target is in the set of a node exactly if edges lead there from a root, and the target is in the set of each of

@@ -12,7 +12,7 @@ use Rattle.cargo_platform.specs.Facts.{Pair, pair_of, fact_set}
 use Rattle.cargo_platform.proofs.FactTruths.{listed}
 use Rattle.partial_facts.specs.KleeneLaws.{TellsMore}
 use Rattle.partial_facts.specs.Partly.{is_named, told_by, partly_told, IsPartlyKnown, KeepsNames}
-use Rattle.partial_facts.specs.OneValued.{is_single, is_value, has_value, is_ruled_out, one_valued_told, IsOneValued}
+use Rattle.partial_facts.specs.OneValued.{is_single, has_key, has_value, is_ruled_out, one_valued_told, IsOneValued}
 use Rattle.partial_facts.specs.OneValued.{IsOpenOneValued, HasOneValue, one_valued_possible, either, both, value_found}
 use Rattle.partial_facts.specs.OneValued.{ruled_out}
 use Rattle.partial_facts.proofs.Telling as partial
@@ -46,11 +46,11 @@ finds_value name [] q k some e = absurd (omega (arith, k.1))
 finds_value name (t ∷ ts) q k some e = elim (Contains-append_cases (t ∷ []) ts q k) [
   | inl here ↦ elim (Contains-push_cases [] t q here) [
     | inl never ↦ absurd (omega (arith, never.1))
-    | inr is ↦ first_true (is_value name t) (has_value name ts)
-        (ap (is_value name) is
+    | inr is ↦ first_true (has_key name t) (has_value name ts)
+        (ap (has_key name) is
         ∙ both_true (is_some q.value) (bytes_eq q.name name) some ((bytes_eq-Decides q.name name).1 e))
   ]
-  | inr there ↦ second_true (is_value name t) (has_value name ts) (finds_value name ts q there some e)
+  | inr there ↦ second_true (has_key name t) (has_value name ts) (finds_value name ts q there some e)
 ]
 
 -- a key that has one value, under another pair's name

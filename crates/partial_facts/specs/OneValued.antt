@@ -27,11 +27,11 @@ pub record IsOneValued (listed : FactSet) (complete single : List (List ℕ)) (s
   pub one_value : HasOneValue listed single s
 
 -- a key with some value
-abbrev pub is_value : List ℕ → Pair → Bool
-is_value name p = is_some p.value && bytes_eq p.name name
+abbrev pub has_key : List ℕ → Pair → Bool
+has_key name p = is_some p.value && bytes_eq p.name name
 
 abbrev pub has_value : List ℕ → List Pair → Bool
-has_value name ps = list_any (is_value name) ps
+has_value name ps = list_any (has_key name) ps
 
 -- a name or key that is complete, or another value of a key that has one value
 abbrev pub is_ruled_out : List Pair → List (List ℕ) → List (List ℕ) → Pair → Bool
@@ -70,7 +70,7 @@ pub value_found : (name : List ℕ) (ps : List Pair) → has_value name ps ≡ t
     → (q : Pair) × Contains ps q × (is_some q.value ≡ true) × (q.name ≡ name)
 value_found name [] h = absurd (true≢false (sym h))
 value_found name (q ∷ qs) h =
-    either ((p : Pair) × Contains (q ∷ qs) p × (is_some p.value ≡ true) × (p.name ≡ name)) (is_value name q)
+    either ((p : Pair) × Contains (q ∷ qs) p × (is_some p.value ≡ true) × (p.name ≡ name)) (has_key name q)
     (has_value name qs) h
     (λ is. let two = both (is_some q.value) (bytes_eq q.name name) is in
     (q, Contains-append_left (q ∷ []) qs q (Contains-push [] q), two.0, (bytes_eq-Decides q.name name).0 two.1))

@@ -4,7 +4,7 @@ ghost use Rattle.std.specs.Prelude.{◌≡◌, map, string_bytes};
 ghost use Rattle.cargo_platform.specs.Trees.{value_of};
 ghost use Rattle.cargo_platform.specs.Facts.{pair_of};
 ghost use Rattle.partial_facts.specs.Partly.{is_named, names_of};
-ghost use Rattle.partial_facts.specs.OneValued.{is_value, has_value};
+ghost use Rattle.partial_facts.specs.OneValued.{has_key, has_value};
 
 use cargo_platform::{Cfg, Ident};
 
@@ -30,9 +30,9 @@ pub fn is_named(name: &Ident, texts: &[&str]) -> bool
 }
 
 /// Returns whether the fact is a pair with this key. Raw marks play no part.
-pub fn is_value(fact: &Cfg, key: &Ident) -> bool
+pub fn has_key(fact: &Cfg, key: &Ident) -> bool
     // It is true exactly if the fact is a pair with this key.
-    ensures { result ≡ is_value (string_bytes key.now.name) (pair_of (value_of fact.now)) }
+    ensures { result ≡ has_key (string_bytes key.now.name) (pair_of (value_of fact.now)) }
 {
     match fact {
         Cfg::Name(_) => false,
@@ -46,7 +46,7 @@ pub fn has_value(facts: &[Cfg], key: &Ident) -> bool
     ensures { result ≡ has_value (string_bytes key.now.name) (map pair_of (map value_of facts.now)) }
 {
     for fact in facts {
-        if is_value(fact, key) {
+        if has_key(fact, key) {
             return true;
         }
     }

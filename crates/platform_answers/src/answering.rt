@@ -16,7 +16,7 @@ ghost use Rattle.platform_answers.specs.Answering.{IsAnswerToLines, IsRefusedAs,
 use crate::Outcome;
 use crate::evaluation::is_true;
 use crate::printing::push_condition;
-use crate::reading::{MOST_BYTES, ReadOutcome};
+use crate::reading::{MAX_BYTES, ReadOutcome};
 use cargo_platform::{Cfg, FactIndex, FactsError, ParseError, Platform, ReadError, read_facts};
 use std::alloc::{AllocError, Global};
 
@@ -228,7 +228,7 @@ fn too_long(alloc: Global) -> Result<Answer, AllocError>
 fn answer_bytes(alloc: Global, bytes: &[u8]) -> Result<Answer, AllocError>
     ensures { IfOk result (λ a. IsAnswer bytes.now (string_bytes a.text) a.outcome) }
 {
-    if bytes.len() > MOST_BYTES {
+    if bytes.len() > MAX_BYTES {
         return too_long(alloc);
     }
     let Ok(text) = str::from_utf8(bytes) else {

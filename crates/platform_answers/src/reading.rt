@@ -9,10 +9,10 @@ use std::alloc::Global;
 use std::io::Read;
 
 /// The maximum number of bytes of an input.
-pub const MOST_BYTES: usize = 1_048_576;
+pub const MAX_BYTES: usize = 1_048_576;
 
 /// The maximum number of reads.
-pub const MOST_READS: u64 = 1_048_578;
+pub const MAX_READS: u64 = 1_048_578;
 
 /// The maximum number of bytes of one read.
 const PIECE: usize = 4096;
@@ -48,11 +48,11 @@ pub fn read_input<R: Read>(
 {
     let mut bytes = Vec::new(alloc);
     let mut piece = [0u8; PIECE];
-    for _turn in 0..MOST_READS {
+    for _turn in 0..MAX_READS {
         match input.read(&mut piece) {
             Ok(0) => return Ok(ReadOutcome::Whole(bytes)),
             Ok(n) => {
-                if n > MOST_BYTES - bytes.len() {
+                if n > MAX_BYTES - bytes.len() {
                     return Ok(ReadOutcome::TooLong);
                 }
                 if bytes.extend_from_slice(&piece[..n]).is_err() {

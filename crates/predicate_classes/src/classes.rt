@@ -20,7 +20,7 @@ use crate::rustc_names::{
     OTHER_WORDS, PANIC_VALUES, UNSTABLE_KEYS, UNSTABLE_NAMES, is_target_feature, pair,
 };
 use cargo_platform::{Cfg, Platform};
-use known_targets::{KnownTarget, is_value, targets_with_fact};
+use known_targets::{KnownTarget, is_known_value, targets_with_fact};
 use partial_facts::names::is_among;
 use std::alloc::{AllocError, Global};
 use strsim::osa_distance;
@@ -178,7 +178,7 @@ fn key_of_value(
     ensures { IfOk result (λ key. is_some key ≡ list_any (has_as_value value.now) (names_of keys.now)) }
 {
     let lower = value.to_ascii_lowercase(alloc)?;
-    if !is_value(lower.as_str()) {
+    if !is_known_value(lower.as_str()) {
         return Ok(None);
     }
     'keys: for key in keys {

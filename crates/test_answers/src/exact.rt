@@ -4,9 +4,9 @@ use crate::all_sets::Question;
 use crate::row_facts;
 use cargo_platform::{Cfg, CfgExpr, Platform};
 use exact_answers::{
-    CanHold, CanSelect, FactConstraints, MustHold, MustSelect, ONE_VALUED, PossibleTarget, always,
-    always_platform, can_be_met, can_hold, can_hold_platform, equivalent, equivalent_platform,
-    exclude, exclude_platform, family_rule, implies, implies_platform,
+    CanHold, FactConstraints, MustHold, ONE_VALUED, PossibleTarget, Satisfiability, Validity,
+    always, always_platform, can_hold, can_hold_platform, equivalent, equivalent_platform, exclude,
+    exclude_platform, family_rule, has_possible_facts, implies, implies_platform,
 };
 use std::alloc::{AllocError, Global};
 use test_rows::Fault;
@@ -177,7 +177,7 @@ fn of_facts(
     };
     match question.kind {
         "can" => Ok(example(can_hold(alloc, a, known, budget)?)),
-        "met" => Ok(example(can_be_met(alloc, known, budget)?)),
+        "met" => Ok(example(has_possible_facts(alloc, known, budget)?)),
         "always" => Ok(counterexample(always(alloc, a, known, budget)?)),
         "implies" => Ok(counterexample(implies(alloc, a, b, known, budget)?)),
         "exclude" => Ok(counterexample(exclude(alloc, a, b, known, budget)?)),
@@ -214,9 +214,9 @@ fn of_targets(
     let answer = match question.kind {
         "can" => {
             return match can_hold_platform(alloc, a, known, 1000)? {
-                CanSelect::Yes(target) => Ok(Found::Target(target)),
-                CanSelect::No => Ok(Found::None),
-                CanSelect::Undecided => Ok(Found::Undecided),
+                Satisfiability::Yes(target) => Ok(Found::Target(target)),
+                Satisfiability::No => Ok(Found::None),
+                Satisfiability::Undecided => Ok(Found::Undecided),
             };
         }
         "always" => always_platform(alloc, a, known, 1000)?,
@@ -225,9 +225,9 @@ fn of_targets(
         _ => equivalent_platform(alloc, a, b, known, 1000)?,
     };
     match answer {
-        MustSelect::Yes => Ok(Found::None),
-        MustSelect::No(target) => Ok(Found::Target(target)),
-        MustSelect::Undecided => Ok(Found::Undecided),
+        Validity::Yes => Ok(Found::None),
+        Validity::No(target) => Ok(Found::Target(target)),
+        Validity::Undecided => Ok(Found::Undecided),
     }
 }
 

@@ -3,8 +3,8 @@
 use crate::row_facts;
 use cargo_platform::{Cfg, CfgExpr, FactIndex, Facts, Platform};
 use known_targets::{
-    COUNT, KnownFact, KnownTarget, OpenTarget, RUSTC_VERSION, TargetSet, all_facts,
-    certainly_matching, classes, matching, possibly_matching, targets_with_fact,
+    COUNT, KnownFact, KnownTarget, PartialTarget, RUSTC_VERSION, TargetSet, all_facts,
+    certainly_matching, matching, partition_targets, possibly_matching, targets_with_fact,
 };
 use partial_facts::decide_platform;
 use std::alloc::{AllocError, Global};
@@ -69,7 +69,7 @@ fn by_facts(alloc: Global, e: &CfgExpr, target: KnownTarget) -> Result<Option<bo
 fn sizes_of_classes(alloc: Global, fields: &mut Fields<'_>) -> Result<String, Fault> {
     let sets = sets_of(alloc, &fields.list(alloc)?)?;
     let mut sizes = Vec::new(alloc);
-    for class in &classes(alloc, &sets)? {
+    for class in &partition_targets(alloc, &sets)? {
         sizes.push(class.len()).map_err(AllocError::from)?;
     }
     sizes.sort()?;
@@ -166,7 +166,7 @@ pub fn names(alloc: Global, set: TargetSet) -> Result<String, Fault> {
 
 /// Returns the decision for a target by itself, if names and keys are open.
 fn decided(p: &Platform, keys: &[&str], target: KnownTarget) -> Option<bool> {
-    let known = OpenTarget {
+    let known = PartialTarget {
         target,
         open_keys: &*keys,
     };

@@ -1,7 +1,7 @@
 //! Manifests that are read and parsed once, however often they are needed.
 
 use crate::manifests::{if_successful, parse_table, table_in, text_in};
-use input_limits::{INPUT, read_file};
+use input_limits::{STDIN_PATH, read_file};
 use std::alloc::{AllocError, Global};
 use std::collections::BTreeMap;
 use std::fs;
@@ -290,7 +290,7 @@ impl ManifestCache {
         rt: &R,
         file: &str,
     ) -> Result<Option<Document>, AllocError> {
-        if file == INPUT {
+        if file == STDIN_PATH {
             return Ok(None);
         }
         let path = real_path(rt, file)?;

@@ -7,7 +7,7 @@ use crate::manifests::{
     join_path, parse_table, simplified_from, simplified_path,
 };
 use crate::members::members_of;
-use input_limits::{INPUT, InputError};
+use input_limits::{InputError, STDIN_PATH};
 use std::alloc::{AllocError, Global};
 use std::collections::BTreeSet;
 use std::env;
@@ -71,7 +71,7 @@ fn manifest_above<R: Files + Env + AllocGlobal>(rt: &R) -> Result<Option<String>
 
 /// Returns the file that an argument names. For a folder, it is the folder's manifest.
 fn file_of<R: Files + AllocGlobal>(rt: &R, path: &str) -> Result<String, AllocError> {
-    if path != INPUT && !path.is_empty() && is_folder(rt, path)? {
+    if path != STDIN_PATH && !path.is_empty() && is_folder(rt, path)? {
         let path = path.strip_suffix("/").unwrap_or(path);
         return format!(in rt.alloc(); "{path}/{MANIFEST}");
     }
@@ -240,7 +240,7 @@ fn add_meant<R: Files + Env + AllocGlobal + Clone + Drop>(
     file: &str,
     found: &mut FoundManifests,
 ) -> Result<(), AllocError> {
-    if file == INPUT {
+    if file == STDIN_PATH {
         found.paths.push(String::from_str(rt.alloc(), file)?)?;
         return Ok(());
     }

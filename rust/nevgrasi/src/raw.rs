@@ -33,15 +33,15 @@ pub const NOT_FLAT: u32 = 3;
 pub const NO_MEMORY: u32 = 4;
 /// The budget is used up.
 pub const UNDECIDED: u32 = 5;
-/// More than `MOST_OPEN` parentheses are open at once, or a flat condition has more than `MOST_FLAT_BYTES` bytes.
+/// More than `MAX_OPEN` parentheses are open at once, or a flat condition has more than `MAX_FLAT_BYTES` bytes.
 pub const TOO_DEEP: u32 = 6;
 /// No known target has this name or index.
 pub const UNKNOWN_TARGET: u32 = 7;
 /// The maximum number of parentheses of a text that can be open at once. Matching, printing and comparing use some 100
 /// bytes of stack for each open group that others follow.
-pub const MOST_OPEN: usize = 10000;
+pub const MAX_OPEN: usize = 10000;
 /// The maximum number of bytes of a flat condition, which can contain one group for each 17 of them.
-pub const MOST_FLAT_BYTES: usize = 680000;
+pub const MAX_FLAT_BYTES: usize = 680000;
 /// The version of the interface. It rises whenever a caller of an earlier version may break.
 pub const ABI: u32 = 2;
 /// The number of targets.

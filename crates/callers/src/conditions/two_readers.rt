@@ -144,7 +144,7 @@ const OPENINGS: [&str; 3] = ["all(", "any(", "not("];
 const LEAVES: [&str; 6] = ["a", "r#true", "true", "false", "r#all = \"v\"", "k=\"(,\""];
 
 /// The maximum number of pieces of a random text, before its groups are closed.
-const MOST_PIECES: usize = 60;
+const MAX_PIECES: usize = 60;
 
 /// A random text, made by a linear congruential generator of which the upper bits are used.
 #[derive(Drop)]
@@ -195,7 +195,7 @@ impl Drawn {
     /// Appends random pieces, each followed by up to two spaces, until no group is open or there are enough. Returns
     /// whether no group is open.
     fn add_pieces(&mut self) -> Result<bool, AllocError> {
-        for _ in 0..MOST_PIECES {
+        for _ in 0..MAX_PIECES {
             let piece = self.piece();
             self.text.push_str(piece)?;
             for _ in 0..self.number() % 3 {

@@ -6,7 +6,7 @@ ghost use Rattle.package_graphs.specs.Packages.{IsThereOn, BuiltFor};
 ghost use Rattle.callers.specs.Shipped.{built};
 
 use known_targets::KnownTarget;
-use package_graphs::{Kinds, Package, present_packages};
+use package_graphs::{Kinds, Package, package_targets};
 use std::alloc::{AllocError, Global};
 
 /// Returns whether an auditor may skip a package: no build on this host needs it, for any known target.
@@ -25,6 +25,6 @@ pub fn is_never_built(
         build: true,
         dev: false,
     };
-    let sets = present_packages(alloc, packages, kinds, Some(host))?;
+    let sets = package_targets(alloc, packages, kinds, Some(host))?;
     Ok(sets.at(index).is_empty())
 }

@@ -2,7 +2,7 @@
 
 use super::support::{assert_at, targets};
 use known_targets::TargetSet;
-use package_graphs::{Edge, Graph, present};
+use package_graphs::{Edge, Graph, reached_targets};
 use std::alloc::Global;
 use std::process::Abort;
 
@@ -17,7 +17,7 @@ fn edge(rt: &impl Abort, alloc: Global, graph: &mut Graph, from: usize, to: usiz
 
 /// Returns the targets of each node.
 fn sets(rt: &impl Abort, alloc: Global, graph: &Graph, roots: &[usize]) -> Vec<TargetSet> {
-    present(alloc, graph, roots).expect(rt, "memory")
+    reached_targets(alloc, graph, roots).expect(rt, "memory")
 }
 
 /// Returns the set at an index.

@@ -3,7 +3,7 @@
 use super::support::{all_kinds, assert_at, depend, package, targets};
 use crate::support::target;
 use known_targets::KnownTarget;
-use package_graphs::{Kind, Package, PackageSets, present_packages};
+use package_graphs::{Kind, Package, PackageTargets, package_targets};
 use std::alloc::Global;
 use std::process::Abort;
 
@@ -47,9 +47,9 @@ fn packages(rt: &impl Abort, alloc: Global) -> [Package; 4] {
     ]
 }
 
-fn sets(rt: &impl Abort, alloc: Global, host: Option<KnownTarget>) -> PackageSets {
+fn sets(rt: &impl Abort, alloc: Global, host: Option<KnownTarget>) -> PackageTargets {
     let packages = packages(rt, alloc);
-    present_packages(alloc, &packages, all_kinds(), host).expect(rt, "memory")
+    package_targets(alloc, &packages, all_kinds(), host).expect(rt, "memory")
 }
 
 #[test]

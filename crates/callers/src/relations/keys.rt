@@ -7,7 +7,7 @@ ghost use Rattle.exact_answers.specs.Asking.{NeedsMore};
 ghost use Rattle.exact_answers.specs.Targets.{ForEach, IsExample, asked_trees};
 
 use cargo_platform::Platform;
-use exact_answers::{FactConstraints, MustSelect, PossibleTarget, implies_platform};
+use exact_answers::{FactConstraints, PossibleTarget, Validity, implies_platform};
 use std::alloc::{AllocError, Global};
 
 /// The result of moving a dependency.
@@ -38,8 +38,8 @@ pub fn may_move<'a>(
         → NeedsMore known.now (asked_trees (condition_of from.now ∷ condition_of to.now ∷ [])) budget) }
 {
     match implies_platform(alloc, from, to, known, budget)? {
-        MustSelect::Yes => Ok(Move::Safe),
-        MustSelect::No(target) => Ok(Move::Loses(target)),
-        MustSelect::Undecided => Ok(Move::Unclear),
+        Validity::Yes => Ok(Move::Safe),
+        Validity::No(target) => Ok(Move::Loses(target)),
+        Validity::Undecided => Ok(Move::Unclear),
     }
 }

@@ -11,7 +11,7 @@ ghost use Rattle.known_targets.specs.Sets.{place};
 ghost use Rattle.known_targets.specs.Table.{target_name, target_facts};
 
 use cargo_platform::{CfgExpr, Platform};
-use known_targets::{COUNT, KnownTarget, OpenTarget, possibly_matching};
+use known_targets::{COUNT, KnownTarget, PartialTarget, possibly_matching};
 use partial_facts::decide;
 use std::alloc::{AllocError, Global};
 
@@ -39,5 +39,5 @@ pub fn under_any_flags(e: &CfgExpr, target: KnownTarget, open_keys: &[&str]) -> 
     ensures sound { (s : FactSet) → IsSameButOpen (target_facts (place target)) (names_of open_keys.now) s
         → IfSome result (λ b. truth s (tree_of e.now) ≡ b) }
 {
-    decide(e, &OpenTarget { target, open_keys })
+    decide(e, &PartialTarget { target, open_keys })
 }

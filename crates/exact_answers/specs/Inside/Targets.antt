@@ -14,10 +14,10 @@ use Rattle.exact_answers.specs.declared.search.Found.{Found}
 use Rattle.exact_answers.specs.declared.search.Found.TheVariants as found
 use Rattle.exact_answers.specs.declared.platforms.Question.{Question}
 use Rattle.exact_answers.specs.declared.platforms.FoundTarget.{FoundTarget}
-use Rattle.exact_answers.specs.declared.platforms.CanSelect.{CanSelect}
-use Rattle.exact_answers.specs.declared.platforms.CanSelect.TheVariants as can
-use Rattle.exact_answers.specs.declared.platforms.MustSelect.{MustSelect}
-use Rattle.exact_answers.specs.declared.platforms.MustSelect.TheVariants as must
+use Rattle.exact_answers.specs.declared.platforms.Satisfiability.{Satisfiability}
+use Rattle.exact_answers.specs.declared.platforms.Satisfiability.TheVariants as can
+use Rattle.exact_answers.specs.declared.platforms.Validity.{Validity}
+use Rattle.exact_answers.specs.declared.platforms.Validity.TheVariants as must
 use Rattle.exact_answers.specs.declared.platforms.FoundTarget.TheVariants as one
 
 -- what a condition says of the facts of a target with this name; with None the name is no condition's
@@ -72,12 +72,12 @@ or_undecided (one.Target t) = one.Target t
 or_undecided one.Nothing = one.Undecided
 or_undecided one.Undecided = one.Undecided
 
-abbrev pub as_can : FoundTarget → CanSelect
+abbrev pub as_can : FoundTarget → Satisfiability
 as_can (one.Target t) = can.Yes t
 as_can one.Nothing = can.No
 as_can one.Undecided = can.Undecided
 
-abbrev pub as_must : FoundTarget → MustSelect
+abbrev pub as_must : FoundTarget → Validity
 as_must (one.Target t) = must.No t
 as_must one.Nothing = must.Yes
 as_must one.Undecided = must.Undecided

@@ -41,7 +41,7 @@ struct PairNumbers {
 }
 
 /// The maximal nesting of groups. Each level takes some stack.
-const MOST_LEVELS: usize = 500;
+const MAX_LEVELS: usize = 500;
 
 /// The query: what is known, and the pairs in the order in which nodes test them.
 #[derive(Drop)]
@@ -331,7 +331,7 @@ pub fn build_goals<K: Knowledge>(
 {
     let mut place = among;
     for goal in goals {
-        let next = build(query, table, place, *goal, MOST_LEVELS)?;
+        let next = build(query, table, place, *goal, MAX_LEVELS)?;
         place = next;
     }
     Ok(place)

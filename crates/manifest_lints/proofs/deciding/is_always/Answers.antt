@@ -1,8 +1,8 @@
 use Rattle.std.proofs.Common.{subst, sym, true≢false, [], ◌∷◌, IsTrue}
 use Rattle.cargo_platform.specs.Trees.{condition_of}
 use Rattle.cargo_platform.specs.Facts.{IsTrueCondition}
-use Rattle.exact_answers.specs.declared.platforms.MustSelect.{MustSelect}
-use Rattle.exact_answers.specs.Targets.{SaysMustSelect}
+use Rattle.exact_answers.specs.declared.platforms.Validity.{Validity}
+use Rattle.exact_answers.specs.Targets.{SaysValidity}
 use Rattle.manifest_lints.specs.declared.deciding.Decided.{Decided}
 use Rattle.manifest_lints.specs.Truths.{SaysAlways, NeedsMoreFor, is_unknown}
 use Rattle.manifest_lints.proofs.Verdicts.{as_ok, each_ok, can_fail}
@@ -13,7 +13,7 @@ pub returns-clause-says : goal.returns-clause-says
 returns-clause-says c =
     let k = c.args.known.now in
     let p = condition_of c.args.platform.now in
-    let says : MustSelect → Type 0 = λ a. SaysMustSelect a k (p ∷ []) c.args.budget
+    let says : Validity → Type 0 = λ a. SaysValidity a k (p ∷ []) c.args.budget
     (λ name s. IsTrueCondition name s p → ⊥) (λ name s. IsTrueCondition name s p) in
     elim c.match-branch-2.branch [
       | in-Yes w ↦
@@ -28,7 +28,7 @@ pub returns-clause-unknown : goal.returns-clause-unknown
 returns-clause-unknown c =
     let k = c.args.known.now in
     let p = condition_of c.args.platform.now in
-    let says : MustSelect → Type 0 = λ a. SaysMustSelect a k (p ∷ []) c.args.budget
+    let says : Validity → Type 0 = λ a. SaysValidity a k (p ∷ []) c.args.budget
     (λ name s. IsTrueCondition name s p → ⊥) (λ name s. IsTrueCondition name s p) in
     let N : Decided → Type 0 = λ d. IsTrue (is_unknown d) → NeedsMoreFor k p c.args.budget in
     elim c.match-branch-2.branch [

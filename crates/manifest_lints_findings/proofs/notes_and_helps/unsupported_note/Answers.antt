@@ -7,7 +7,7 @@ use Rattle.manifest_lints_findings.specs.Chosen.{chosen, warnings_on}
 use Rattle.manifest_lints_findings.specs.Messages.{unsupported_in}
 use Rattle.manifest_lints_findings.specs.Texts.{shown_whole, Mentions, and_more, joined_first}
 use Rattle.manifest_lints_findings.specs.declared.chosen.Choice.TheVariants as choice
-use Rattle.manifest_lints_findings.specs.declared.wording.TheConstants.{MOST_SHOWN}
+use Rattle.manifest_lints_findings.specs.declared.wording.TheConstants.{MAX_SHOWN}
 use Rattle.manifest_lints_findings.proofs.Mentions.{mentions_is, mentions_last, joined_texts}
 use Rattle.manifest_lints_findings.proofs.notes_and_helps.unsupported_note.Goals as goal
 
@@ -20,7 +20,7 @@ returns c =
     let warnings = c.in_ok-warnings.warnings.items in
     let counted : c.len.result ≡ length warnings = search rules in
     let joined = c.in_ok-words.ensures
-    ∙ (λ i. join_by (λ s. string_bytes s) (codes " ") (take MOST_SHOWN (c.deref-3.ensures.value i)) ++ and_more (counted i))
+    ∙ (λ i. join_by (λ s. string_bytes s) (codes " ") (take MAX_SHOWN (c.deref-3.ensures.value i)) ++ and_more (counted i))
     ∙ joined_texts (λ s. string_bytes s) (codes " ") warnings
     ∙ ap (joined_first (λ t. t) (codes " ")) warnings_are in
     let shown = c.in_ok-text.ensures ∙ ap shown_whole (c.as_str.ensures.value ∙ joined) in

@@ -1,8 +1,8 @@
 use Rattle.std.proofs.Common.{◌↔◌, sym, subst, get_or, [], ◌∷◌, Some}
 use Rattle.cargo_platform.specs.Trees.{condition_of}
 use Rattle.cargo_platform.specs.Facts.{IsTrueCondition}
-use Rattle.exact_answers.specs.declared.platforms.MustSelect.{MustSelect}
-use Rattle.exact_answers.specs.Targets.{SaysMustSelect}
+use Rattle.exact_answers.specs.declared.platforms.Validity.{Validity}
+use Rattle.exact_answers.specs.Targets.{SaysValidity}
 use Rattle.manifest_lints.specs.Earlier.{AreEquivalent, MayBeUndecided}
 use Rattle.manifest_lints.proofs.Noting.{member_at, undecided_at, none_compared}
 use Rattle.manifest_lints.proofs.Noting.{one_compared, not_member_at, not_alike, none_past, all_compared}
@@ -13,7 +13,7 @@ returns-in-Yes-clause-equivalent c =
     let k = c.args.known.now in
     let p = condition_of c.args.platform.now in
     let q = condition_of c.in-Some-get.field-0.now.1.now in
-    let says : MustSelect → Type 0 = λ a. SaysMustSelect a k (q ∷ p ∷ []) c.in-Some-budget.splits
+    let says : Validity → Type 0 = λ a. SaysValidity a k (q ∷ p ∷ []) c.in-Some-budget.splits
     (λ name s. (IsTrueCondition name s q ↔ IsTrueCondition name s p) → ⊥)
     (λ name s. IsTrueCondition name s q ↔ IsTrueCondition name s p) in
     let alike : AreEquivalent k q p = subst says c.in-Yes.is c.in_ok-equivalent_platform.ensures in
@@ -26,7 +26,7 @@ returns-in-Undecided-clause-undecided c = λ is.
     let k = c.args.known.now in
     let p = condition_of c.args.platform.now in
     let q = condition_of c.in-Some-get.field-0.now.1.now in
-    let says : MustSelect → Type 0 = λ a. SaysMustSelect a k (q ∷ p ∷ []) c.in-Some-budget.splits
+    let says : Validity → Type 0 = λ a. SaysValidity a k (q ∷ p ∷ []) c.in-Some-budget.splits
     (λ name s. (IsTrueCondition name s q ↔ IsTrueCondition name s p) → ⊥)
     (λ name s. IsTrueCondition name s q ↔ IsTrueCondition name s p) in
     let found = c.in-Some-get.ensures.lookup in
@@ -44,7 +44,7 @@ places-preserved c =
     let p = condition_of c.args.platform.now in
     let m = c.in-Some-get.field-0.now in
     let q = condition_of m.1.now in
-    let says : MustSelect → Type 0 = λ a. SaysMustSelect a k (q ∷ p ∷ []) c.in-Some-budget.splits
+    let says : Validity → Type 0 = λ a. SaysValidity a k (q ∷ p ∷ []) c.in-Some-budget.splits
     (λ name s. (IsTrueCondition name s q ↔ IsTrueCondition name s p) → ⊥)
     (λ name s. IsTrueCondition name s q ↔ IsTrueCondition name s p) in
     let ns = c.deref-place-items.result.now in

@@ -4,7 +4,7 @@ use Rattle.known_targets.specs.declared.table.TheConstants.{COUNT}
 use Rattle.package_graphs.specs.Graphs.{edge_lists, edges_from, is_in}
 use Rattle.package_graphs.specs.Inside.Spreading.{waits, IsQueue, node_count, missing, AreSound}
 use Rattle.package_graphs.specs.Inside.Spreading.{AreCarried}
-use Rattle.package_graphs.proofs.presence.present.Given as goal
+use Rattle.package_graphs.proofs.presence.reached_targets.Given as goal
 
 abbrev pub invariant-roots : goal.invariant-roots
 invariant-roots l = record {

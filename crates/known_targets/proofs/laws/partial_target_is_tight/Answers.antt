@@ -1,5 +1,5 @@
 use Rattle.known_targets.proofs.Taken.{allowed, left_open}
-use Rattle.known_targets.proofs.laws.open_target_is_tight.Goals as goal
+use Rattle.known_targets.proofs.laws.partial_target_is_tight.Goals as goal
 
 pub returns-clause-allowed : goal.returns-clause-allowed
 returns-clause-allowed c = allowed

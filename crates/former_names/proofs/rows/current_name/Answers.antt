@@ -1,6 +1,6 @@
 use Rattle.std.proofs.Common.{subst, IfNone, List, ℕ}
 use Rattle.former_names.specs.Rows.{IsRenamed}
-use Rattle.former_names.proofs.rows.name_now.Goals as goal
+use Rattle.former_names.proofs.rows.current_name.Goals as goal
 
 pub returns-clause-none : goal.returns-clause-none
 returns-clause-none c =

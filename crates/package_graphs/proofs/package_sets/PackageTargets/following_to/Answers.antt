@@ -6,7 +6,7 @@ use Rattle.package_graphs.specs.Packages.{is_macro}
 use Rattle.package_graphs.specs.declared.sides.Side.{Side}
 use Rattle.package_graphs.specs.declared.sides.Side.TheVariants.{Target, Host}
 use Rattle.package_graphs.proofs.Followed.{leads_with, to_either, from_to}
-use Rattle.package_graphs.proofs.package_sets.PackageSets.following_to.Goals as goal
+use Rattle.package_graphs.proofs.package_sets.PackageTargets.following_to.Goals as goal
 
 pub returns : goal.returns
 returns c k below =

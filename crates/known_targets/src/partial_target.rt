@@ -11,18 +11,18 @@ use partial_facts::Knowledge;
 /// are known. So `decide` and `residual` of `partial_facts` say what depends on `target_feature`, `panic` or a custom
 /// name.
 #[derive(Clone, Copy, Drop)]
-pub struct OpenTarget<'a> {
+pub struct PartialTarget<'a> {
     pub target: KnownTarget,
     pub open_keys: &'a [&'a str],
 }
 
-impl<'a> Knowledge for OpenTarget<'a> {
+impl<'a> Knowledge for PartialTarget<'a> {
     ghost use Rattle.partial_facts.specs.Partly.{names_of};
     ghost use Rattle.known_targets.specs.Sets.{place};
     ghost use Rattle.known_targets.specs.Table.{target_facts};
     ghost use Rattle.known_targets.specs.Open.{open_told, IsSameButOpen, open_possible, open_sound};
 
-    // An open target allows the sets of facts that differ from the target's only in open facts.
+    // A partial target allows the sets of facts that differ from the target's only in open facts.
     ghost allows = { λ k s. IsSameButOpen (target_facts (place k.target)) (names_of k.open_keys.now) s };
 
     ghost example = { λ k. target_facts (place k.target) };

@@ -12,7 +12,7 @@ use Rattle.package_graphs.specs.Graphs.{edge_lists, edges_from, is_in}
 use Rattle.package_graphs.specs.Inside.Spreading.{waits, AreCarried}
 use Rattle.package_graphs.proofs.SetLists.{is_in_none}
 use Rattle.package_graphs.proofs.Complete.{by_place, complete}
-use Rattle.package_graphs.proofs.presence.present.Goals as goal
+use Rattle.package_graphs.proofs.presence.reached_targets.Goals as goal
 
 pub roots-init : goal.roots-init
 roots-init c =

@@ -1,5 +1,5 @@
 use Rattle.known_targets.proofs.Parting.{classes_more}
-use Rattle.known_targets.proofs.partition.classes.Goals as goal
+use Rattle.known_targets.proofs.partition.partition_targets.Goals as goal
 
 pub sets-preserved : goal.sets-preserved
 sets-preserved c =

@@ -12,13 +12,13 @@ use Rattle.package_graphs.specs.declared.two_sided_graph.TraversalQuery.{Travers
 use Rattle.package_graphs.proofs.Sided.{length_numbered, fits_node, sided_from_node, node_from_sided}
 use Rattle.package_graphs.proofs.Alone.{alone_from_none, none_from_alone}
 use Rattle.package_graphs.proofs.Followed.{from_side}
-use Rattle.package_graphs.proofs.package_sets.present_packages.Goals as goal
+use Rattle.package_graphs.proofs.package_sets.package_targets.Goals as goal
 
 pub returns : goal.returns
 returns c =
     let packages = c.args.packages.now in
     let q : TraversalQuery = c.new-traversal.result in
-    let sets = c.in_ok-present.field-0.items in
+    let sets = c.in_ok-reached_targets.field-0.items in
     let nodes = c.in_ok-roots.roots.items in
     let firsts = c.in_ok-roots.ensures in
     let at_node : (n : Sided) (k : ℕ) → n.0 < length packages → k < COUNT
@@ -29,7 +29,7 @@ returns c =
     let count = length_numbered q packages packages in
     omega (arith, fits, count) in
     let fits = subst (λ (es : Edges). node_of n.0 n.1 < length es) (sym c.in_ok-graph.ensures) below in
-    let e = c.in_ok-present.ensures.exact (node_of n.0 n.1) k fits known in
+    let e = c.in_ok-reached_targets.ensures.exact (node_of n.0 n.1) k fits known in
     let f = subst (λ (es : Edges). IsTrue (is_in sets (node_of n.0 n.1) k)
     ↔ IsPresent es c.deref.result.now k (node_of n.0 n.1)) c.in_ok-graph.ensures e in
     subst (λ (rs : List ℕ). IsTrue (is_in sets (node_of n.0 n.1) k)

@@ -2,7 +2,7 @@ use Rattle.std.proofs.Common.{◌∙◌, sym, ap}
 use Rattle.known_targets.specs.Rows.{lists_value}
 use Rattle.known_targets.specs.Table.{table_keys}
 use Rattle.known_targets.proofs.Unlisted.{unlisted}
-use Rattle.known_targets.proofs.matching_targets.is_value.Goals as goal
+use Rattle.known_targets.proofs.matching_targets.is_known_value.Goals as goal
 
 pub returns : goal.returns
 returns c h =
