@@ -52,7 +52,8 @@ IsWrittenExample t o old new =
     × IsWritten (name_with_length t.name ++ facts_with_lengths (map value_of t.facts.items)) o.needed old new
 
 -- P holds for a target that is possible, and that is written to the buffer
-abbrev pub HasExample : FactConstraints → List Condition → (List ℕ → FactSet → Type 0) → Outcome → List ℕ → List ℕ → Type 0
+abbrev pub HasExample : FactConstraints → List Condition → (List ℕ → FactSet → Type 0) → Outcome → List ℕ → List ℕ
+    → Type 0
 HasExample k cs P o old new = (t : PossibleTarget) × (IsExample t k cs P × IsWrittenExample t o old new)
 
 -- the budget is too small for a search on these conditions

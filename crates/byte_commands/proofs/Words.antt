@@ -60,7 +60,8 @@ pub one_file : (bytes left after name input more_input : List ℕ) (files more :
     → more ≡ files ++ (if bytes_eq name STDIN_PATH.now then [] else e.content ∷ [])
     → more_input ≡ (if bytes_eq name STDIN_PATH.now then e.content else input)
     → AreFilesTo bytes after more more_input
-one_file bytes left after name input more_input files more e (es, (whole, entries, are, is)) first entry named added set =
+one_file bytes left after name input more_input files more e (es, (whole, entries, are, is)) first entry named added
+    set =
     let read : List ℕ = flat_map entry_bytes es in (
       es ++ e ∷ [],
       (

@@ -112,7 +112,8 @@ impl BuildOptions {
         steps: &mut Vec<Step>,
     ) -> Result<(), AllocError>
         ensures { OnOk result (steps.new.items
-            ≡ steps.old.items ++ active_steps self unit.entry.packages.now unit.entry.at unit.entry.package.now place dependency.now) }
+            ≡ steps.old.items ++ active_steps self unit.entry.packages.now unit.entry.at unit.entry.package.now place
+            dependency.now) }
     {
         let counts = self.considers(unit.package, dependency);
         let from = unit.at.gate(
@@ -145,7 +146,8 @@ impl BuildOptions {
         steps: &mut Vec<Step>,
     ) -> Result<(), AllocError>
         ensures { OnOk result (steps.new.items
-            ≡ steps.old.items ++ used_steps self unit.entry.packages.now unit.entry.at unit.entry.package.now place dependency.now) }
+            ≡ steps.old.items ++ used_steps self unit.entry.packages.now unit.entry.at unit.entry.package.now place
+            dependency.now) }
     {
         let is_followed = self.kinds.follow(unit.package.is_root, dependency.kind);
         let used = Claim::Used(unit.at.index, unit.at.side);
@@ -180,7 +182,8 @@ impl BuildOptions {
         steps: &mut Vec<Step>,
     ) -> Result<(), AllocError>
         ensures { OnOk result (steps.new.items ≡ steps.old.items
-            ++ strong_at self unit.entry.packages.now unit.entry.at unit.entry.package.now entry.from entry.place entry.feature (Some dependency.now)) }
+            ++ strong_at self unit.entry.packages.now unit.entry.at unit.entry.package.now entry.from entry.place
+            entry.feature (Some dependency.now)) }
     {
         let counts = self.considers(unit.package, dependency);
         let end = self.feature_destination(unit.packages, unit.at.side, dependency);
@@ -214,7 +217,8 @@ impl BuildOptions {
         steps: &mut Vec<Step>,
     ) -> Result<(), AllocError>
         ensures { OnOk result (steps.new.items
-            ≡ steps.old.items ++ strong_steps self unit.entry.packages.now unit.entry.at unit.entry.package.now entry.from entry.place entry.feature) }
+            ≡ steps.old.items ++ strong_steps self unit.entry.packages.now unit.entry.at unit.entry.package.now
+            entry.from entry.place entry.feature) }
     {
         if entry.place >= unit.package.dependencies.len() {
             return Ok(());
@@ -234,7 +238,8 @@ impl BuildOptions {
         steps: &mut Vec<Step>,
     ) -> Result<(), AllocError>
         ensures { OnOk result (steps.new.items ≡ steps.old.items
-            ++ weak_at self unit.entry.packages.now unit.entry.at unit.entry.package.now entry.from entry.place entry.feature (Some dependency.now)) }
+            ++ weak_at self unit.entry.packages.now unit.entry.at unit.entry.package.now entry.from entry.place
+            entry.feature (Some dependency.now)) }
     {
         let counts = self.considers(unit.package, dependency);
         let end = self.feature_destination(unit.packages, unit.at.side, dependency);
@@ -256,7 +261,8 @@ impl BuildOptions {
         steps: &mut Vec<Step>,
     ) -> Result<(), AllocError>
         ensures { OnOk result (steps.new.items
-            ≡ steps.old.items ++ weak_steps self unit.entry.packages.now unit.entry.at unit.entry.package.now entry.from entry.place entry.feature) }
+            ≡ steps.old.items ++ weak_steps self unit.entry.packages.now unit.entry.at unit.entry.package.now
+            entry.from entry.place entry.feature) }
     {
         if entry.place >= unit.package.dependencies.len() {
             return Ok(());
@@ -275,7 +281,8 @@ impl BuildOptions {
         steps: &mut Vec<Step>,
     ) -> Result<(), AllocError>
         ensures { OnOk result (steps.new.items
-            ≡ steps.old.items ++ member_steps self unit.entry.packages.now unit.entry.at unit.entry.package.now from member) }
+            ≡ steps.old.items ++ member_steps self unit.entry.packages.now unit.entry.at unit.entry.package.now from
+            member) }
     {
         match member {
             FeatureValue::Feature(feature) => {
@@ -307,7 +314,8 @@ impl BuildOptions {
 
     /// Appends the steps of a package's dependencies.
     fn dependencies(self, unit: Unit<'_>, steps: &mut Vec<Step>) -> Result<(), AllocError>
-        ensures { OnOk result (steps.new.items ≡ steps.old.items ++ dependency_steps self unit.entry.packages.now unit.entry.at unit.entry.package.now) }
+        ensures { OnOk result (steps.new.items ≡ steps.old.items ++ dependency_steps self unit.entry.packages.now
+            unit.entry.at unit.entry.package.now) }
     {
         'dependencies: for i in 0..unit.package.dependencies.len() {
             let dependency = &unit.package.dependencies[i];
@@ -326,7 +334,8 @@ impl BuildOptions {
         steps: &mut Vec<Step>,
     ) -> Result<(), AllocError>
         ensures { OnOk result (steps.new.items
-            ≡ steps.old.items ++ feature_steps self unit.entry.packages.now unit.entry.at unit.entry.package.now place members.now) }
+            ≡ steps.old.items ++ feature_steps self unit.entry.packages.now unit.entry.at unit.entry.package.now place
+            members.now) }
     {
         let from = Claim::Feature(unit.at.index, unit.at.side, place);
         'members: for member in members {
@@ -337,7 +346,8 @@ impl BuildOptions {
 
     /// Appends the steps of all features of a package.
     fn features(self, unit: Unit<'_>, steps: &mut Vec<Step>) -> Result<(), AllocError>
-        ensures { OnOk result (steps.new.items ≡ steps.old.items ++ all_features self unit.entry.packages.now unit.entry.at unit.entry.package.now) }
+        ensures { OnOk result (steps.new.items ≡ steps.old.items ++ all_features self unit.entry.packages.now
+            unit.entry.at unit.entry.package.now) }
     {
         'features: for i in 0..unit.package.features.len() {
             let members = &unit.package.features[i];

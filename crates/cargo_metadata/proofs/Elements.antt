@@ -78,7 +78,8 @@ pub list_fits : (field : List ℕ) (d : Data) (ds : List Data) → list_at field
 list_fits field d ds is = mapped_some elements (option_and_then as_array (get field d)) ds is
 
 -- the error is in the field after these, which are as expected
-first_wrong : (before : List Field) (field : List ℕ) (what : ExpectedValue) (after : List Field) (d : Data) (wrong : FieldError)
+first_wrong : (before : List Field) (field : List ℕ) (what : ExpectedValue) (after : List Field) (d : Data)
+    (wrong : FieldError)
     → All (Fits d) before → IsWrong d wrong → IsAt field what wrong
     → IsFirstWrong (before ++ (field, what) ∷ after) d wrong
 first_wrong before field what after d wrong fit misfits at = record {
@@ -90,7 +91,8 @@ first_wrong before field what after d wrong fit misfits at = record {
   misfits = misfits;
 }
 
-pub wrong_first : (field : List ℕ) (what : ExpectedValue) (after : List Field) (d : Data) (wrong : FieldError) → IsWrong d wrong
+pub wrong_first : (field : List ℕ) (what : ExpectedValue) (after : List Field) (d : Data) (wrong : FieldError)
+    → IsWrong d wrong
     → IsAt field what wrong → IsFirstWrong ((field, what) ∷ after) d wrong
 wrong_first field what after d wrong misfits at =
     first_wrong [] field what after d wrong (All-nil (Fits d)) misfits at
@@ -101,12 +103,14 @@ one_fits d f fit = All-cons (Fits d) f [] fit (All-nil (Fits d))
 pub two_fit : (d : Data) (f g : Field) → Fits d f → Fits d g → All (Fits d) (f ∷ g ∷ [])
 two_fit d f g fit also = All-cons (Fits d) f (g ∷ []) fit (one_fits d g also)
 
-pub wrong_second : (f : Field) (field : List ℕ) (what : ExpectedValue) (after : List Field) (d : Data) (wrong : FieldError)
+pub wrong_second : (f : Field) (field : List ℕ) (what : ExpectedValue) (after : List Field) (d : Data)
+    (wrong : FieldError)
     → Fits d f → IsWrong d wrong → IsAt field what wrong → IsFirstWrong (f ∷ (field, what) ∷ after) d wrong
 wrong_second f field what after d wrong fit misfits at =
     first_wrong (f ∷ []) field what after d wrong (one_fits d f fit) misfits at
 
-pub wrong_third : (f g : Field) (field : List ℕ) (what : ExpectedValue) (after : List Field) (d : Data) (wrong : FieldError)
+pub wrong_third : (f g : Field) (field : List ℕ) (what : ExpectedValue) (after : List Field) (d : Data)
+    (wrong : FieldError)
     → Fits d f → Fits d g → IsWrong d wrong → IsAt field what wrong
     → IsFirstWrong (f ∷ g ∷ (field, what) ∷ after) d wrong
 wrong_third f g field what after d wrong fit also misfits at =

@@ -71,7 +71,8 @@ module _ (d : Data) (refusal : MetadataError) (one : IsVersionOne d) (fault : Is
     in_members within =
         let before : List Field = (codes "version", expected.One) ∷ (codes "packages", expected.List) ∷ [] in
         first_part before _ _ d refusal refl
-        (All-cons (IsWhole d) (codes "version", expected.One) ((codes "packages", expected.List) ∷ []) (version_whole d one)
+        (All-cons (IsWhole d) (codes "version", expected.One) ((codes "packages", expected.List) ∷ [])
+        (version_whole d one)
         whole_packages) fault within
 
     pub in_resolve : (ms : List (Bor (List ℕ))) → AreRowsAt IsMember (codes "workspace_members") d ms

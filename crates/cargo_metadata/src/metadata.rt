@@ -115,7 +115,8 @@ fn packages_at<'a>(alloc: Global, document: &'a Value) -> Result<Vec<Package<'a>
 /// Reads the ids of the workspace's members.
 fn members_at<'a>(alloc: Global, document: &'a Value) -> Result<Vec<&'a str>, MetadataError>
     ensures { MatchResult result (λ ms. AreRowsAt IsMember (codes "workspace_members") (view document.now) ms.items)
-        (λ refusal. IsFault (view document.now) refusal × IsIn (codes "workspace_members", ExpectedValue.List) refusal) }
+        (λ refusal. IsFault (view document.now) refusal × IsIn (codes "workspace_members", ExpectedValue.List)
+        refusal) }
 {
     let items = match require_list(document, "workspace_members") {
         Ok(items) => items,

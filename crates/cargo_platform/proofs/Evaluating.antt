@@ -213,7 +213,8 @@ same_code true ds es = refl
 same_code false ds es = refl
 
 -- a member that changes nothing
-pub member_kept : (fs : FactSet) (w : Words) (all : Bool) (es : List Tree) (gs : List Opening) (e : Tree) (answer : Bool)
+pub member_kept : (fs : FactSet) (w : Words) (all : Bool) (es : List Tree) (gs : List Opening) (e : Tree)
+    (answer : Bool)
     → Hold fs w (Listed all es ∷ gs) → IsAnswer fs (Listed all es ∷ gs) answer e
     → (is_settled fs (Listed all es ∷ gs) ≡ false → decides all answer ≡ false)
     → Hold fs w (Listed all (es ++ e ∷ []) ∷ gs)
@@ -259,7 +260,8 @@ not_not false = refl
 pub list_answer : (fs : FactSet) (all : Bool) (es : List Tree) (gs : List Opening) (answer : Bool)
     → answer ≡ decides all (is_settled fs (Listed all es ∷ gs)) → IsAnswer fs gs answer (list_tree all es)
 list_answer fs true es gs answer is matters =
-    is ∙ ap not (undecided (is_settled fs gs) (is_decided fs (Listed true es)) matters) ∙ not_not (all_true fs (trees_of es))
+    is ∙ ap not (undecided (is_settled fs gs) (is_decided fs (Listed true es)) matters) ∙ not_not
+    (all_true fs (trees_of es))
 list_answer fs false es gs answer is matters =
     is ∙ undecided (is_settled fs gs) (is_decided fs (Listed false es)) matters
 

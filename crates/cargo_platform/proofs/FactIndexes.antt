@@ -38,7 +38,8 @@ abbrev pub IsPair : List ℕ → PairPlace → Type 0
 IsPair texts p = HasPair texts p (text_at texts p.key) (text_at texts p.value.place)
 
 -- the names and pairs that an index keeps of a list of facts
-pub record AreKept (facts : List Cfg) (texts : List ℕ) (names : List HashedPlace) (pairs : List PairPlace) : Type 0 where
+pub record AreKept (facts : List Cfg) (texts : List ℕ) (names : List HashedPlace) (pairs : List PairPlace) : Type
+    0 where
   pub names_in : All (IsName texts) names
   pub pairs_in : All (IsPair texts) pairs
   pub same : IsPermutation (map kept_value facts) (map (name_at texts) names ++ map (pair_at texts) pairs)

@@ -101,7 +101,8 @@ uncut : (cs : List ℕ) → length cs ≤ 100 → shown_line cs 0 0 ≡ encode_u
 uncut cs short =
     ap (λ b. shown_part cs (if b then 0 else 0) (if b then length cs else min (length cs) 100))
     (le-leb (length cs) 100 short)
-    ∙ whole (length cs - 0) (nat_lt (length cs) (length cs)) (omega arith) (le-ltb (length cs) (length cs) (omega arith))
+    ∙ whole (length cs - 0) (nat_lt (length cs) (length cs)) (omega arith)
+    (le-ltb (length cs) (length cs) (omega arith))
   where
     whole : (n : ℕ) (b : Bool) → n ≡ length cs → b ≡ false
         → encode_utf8_all (map shown (take n cs)) ++ dots b ≡ encode_utf8_all (map shown cs)

@@ -274,7 +274,8 @@ just_two {X} old mid new P Q none first second x = (
         | inl before ↦
             elim ((first x).0 before) [
               | inl old ↦
-                  absurd (let inside = subst (λ (l : List X). Contains l x) none old in let below = inside.1 in omega arith)
+                  absurd (let inside = subst (λ (l : List X). Contains l x) none old in let below = inside.1 in omega
+                  arith)
               | inr p ↦ inl p
             ]
         | inr q ↦ inr q

@@ -98,7 +98,8 @@ names_all declarations n names past below node q =
 abbrev pair_of : DependencyRow → DeclaredDependency → DependencyRow × DeclaredDependency
 pair_of row declared = (row, declared)
 
-pub link_first : (graph : DeclaredGraph) (node : ℕ) (rows : List DependencyRow) (i : ℕ) (declared : List DeclaredDependency)
+pub link_first : (graph : DeclaredGraph) (node : ℕ) (rows : List DependencyRow) (i : ℕ)
+    (declared : List DeclaredDependency)
     (link : DependencyRow × DeclaredDependency) → IsLinkBelow graph node rows i declared 0 link
     → IsLink graph node (take i rows) declared link
 link_first graph node rows i declared link below =
@@ -108,9 +109,11 @@ link_first graph node rows i declared link below =
     ]
 
 -- one more declared dependency, to which the edge belongs
-pub link_more : (graph : DeclaredGraph) (node : ℕ) (rows : List DependencyRow) (i : ℕ) (row : DependencyRow) (declared : List DeclaredDependency)
+pub link_more : (graph : DeclaredGraph) (node : ℕ) (rows : List DependencyRow) (i : ℕ) (row : DependencyRow)
+    (declared : List DeclaredDependency)
     (j : ℕ)
-    (d : DeclaredDependency) → slice_get rows i ≡ Some row → slice_get declared j ≡ Some d → (link : DependencyRow × DeclaredDependency)
+    (d : DeclaredDependency) → slice_get rows i ≡ Some row → slice_get declared j ≡ Some d
+    → (link : DependencyRow × DeclaredDependency)
     → IsLinkBelow graph node rows i declared (j + 1) link
     → IsLinkBelow graph node rows i declared j link ⊎ (((row, d) ≡ link) × IsOf graph node row d)
 link_more graph node rows i row declared j d row_at d_at (r, e) below =
@@ -132,7 +135,8 @@ link_more graph node rows i row declared j d row_at d_at (r, e) below =
           ]
     ]
 
-pub link_before : (graph : DeclaredGraph) (node : ℕ) (rows : List DependencyRow) (i : ℕ) (declared : List DeclaredDependency) (j : ℕ)
+pub link_before : (graph : DeclaredGraph) (node : ℕ) (rows : List DependencyRow) (i : ℕ)
+    (declared : List DeclaredDependency) (j : ℕ)
     (d : DeclaredDependency) → slice_get declared j ≡ Some d → (link : DependencyRow × DeclaredDependency)
     → IsLinkBelow graph node rows i declared j link → IsLinkBelow graph node rows i declared (j + 1) link
 link_before graph node rows i declared j d d_at link below =
@@ -145,16 +149,19 @@ link_before graph node rows i declared j d d_at link below =
       })
     ]
 
-pub link_here : (graph : DeclaredGraph) (node : ℕ) (rows : List DependencyRow) (i : ℕ) (row : DependencyRow) (declared : List DeclaredDependency)
+pub link_here : (graph : DeclaredGraph) (node : ℕ) (rows : List DependencyRow) (i : ℕ) (row : DependencyRow)
+    (declared : List DeclaredDependency)
     (j : ℕ)
     (d : DeclaredDependency) → slice_get rows i ≡ Some row → slice_get declared j ≡ Some d → IsOf graph node row d
-    → (link : DependencyRow × DeclaredDependency) → (row, d) ≡ link → IsLinkBelow graph node rows i declared (j + 1) link
+    → (link : DependencyRow × DeclaredDependency) → (row, d) ≡ link
+    → IsLinkBelow graph node rows i declared (j + 1) link
 link_here graph node rows i row declared j d row_at d_at belongs link same =
     subst (λ (l : DependencyRow × DeclaredDependency). IsLinkBelow graph node rows i declared (j + 1) l) same
     (inr (record { row_is = row_at; declared_is = taken_here declared j d d_at; belongs = belongs }))
 
 -- all declared dependencies of one more row
-pub link_row : (graph : DeclaredGraph) (node : ℕ) (rows : List DependencyRow) (i : ℕ) (row : DependencyRow) (declared : List DeclaredDependency)
+pub link_row : (graph : DeclaredGraph) (node : ℕ) (rows : List DependencyRow) (i : ℕ) (row : DependencyRow)
+    (declared : List DeclaredDependency)
     (j : ℕ)
     → slice_get rows i ≡ Some row → length declared ≤ j → (link : DependencyRow × DeclaredDependency)
     → IsLinkBelow graph node rows i declared j link → IsLink graph node (take (i + 1) rows) declared link
@@ -173,7 +180,8 @@ link_row graph node rows i row declared j row_at past link below =
       }
     ]
 
-pub row_link : (graph : DeclaredGraph) (node : ℕ) (rows : List DependencyRow) (i : ℕ) (row : DependencyRow) (declared : List DeclaredDependency)
+pub row_link : (graph : DeclaredGraph) (node : ℕ) (rows : List DependencyRow) (i : ℕ) (row : DependencyRow)
+    (declared : List DeclaredDependency)
     (j : ℕ)
     → slice_get rows i ≡ Some row → length declared ≤ j → (link : DependencyRow × DeclaredDependency)
     → IsLink graph node (take (i + 1) rows) declared link → IsLinkBelow graph node rows i declared j link
@@ -205,13 +213,15 @@ lists_grown IsMember features lists new more is has = record {
   each = λ k f at.
       let it = has.each k f at in (
         it.0,
-        subst (λ (l : List (Vec FeatureValue Global)). slice_get l k ≡ Some it.0) (sym is) (get_grown lists more k it.0 it.1),
+        subst (λ (l : List (Vec FeatureValue Global)). slice_get l k ≡ Some it.0) (sym is)
+            (get_grown lists more k it.0 it.1),
         it.2,
       );
 }
 
 -- one more list, if the package is concerned
-pub last_pushed : (concerned : Bool) (IsLast : List FeatureValue → Type 0) (count : ℕ) (lists new : List (Vec FeatureValue Global))
+pub last_pushed : (concerned : Bool) (IsLast : List FeatureValue → Type 0) (count : ℕ)
+    (lists new : List (Vec FeatureValue Global))
     (members : Vec FeatureValue Global) → concerned ≡ true → length lists ≡ count → new ≡ lists ++ members ∷ []
     → IsLast members.items → HasLast concerned IsLast count new
 last_pushed concerned IsLast count lists new members is same pushed last = record {
@@ -226,7 +236,8 @@ last_pushed concerned IsLast count lists new members is same pushed last = recor
   );
 }
 
-pub none_pushed : (concerned : Bool) (IsLast : List FeatureValue → Type 0) (count : ℕ) (lists : List (Vec FeatureValue Global))
+pub none_pushed : (concerned : Bool) (IsLast : List FeatureValue → Type 0) (count : ℕ)
+    (lists : List (Vec FeatureValue Global))
     → concerned ≡ false → length lists ≡ count → HasLast concerned IsLast count lists
 none_pushed concerned IsLast count lists is same = record {
   lengths = same ∙ sym (ap (λ (b : Bool). cond b (count + 1) count) is);
@@ -264,7 +275,8 @@ pub described_grown : (graph : DeclaredGraph) (requested : RequestedFeatures) (a
     (packages new : List Package) (edges newer : List
     (Vec ℕ Global))
     (more : List Package) (more_edges : List (Vec ℕ Global)) (node : ℕ) → new ≡ packages ++ more
-    → newer ≡ edges ++ more_edges → IsDescribedAt graph requested at packages edges node → IsDescribedAt graph requested at new newer node
+    → newer ≡ edges ++ more_edges → IsDescribedAt graph requested at packages edges node
+    → IsDescribedAt graph requested at new newer node
 described_grown graph requested at packages new edges newer more more_edges node is are described = record {
   package_at = described.package_at;
   edges_at = described.edges_at;
@@ -287,7 +299,8 @@ pub described_more : (graph : DeclaredGraph) (requested : RequestedFeatures) (at
 described_more graph requested at packages new edges newer unit its n is are count counts described before node below =
     elim (cases_lt node n) [
       | inl less ↦
-          described_grown graph requested at packages new edges newer (unit ∷ []) (its ∷ []) node is are (before node less)
+          described_grown graph requested at packages new edges newer (unit ∷ []) (its ∷ []) node is are
+          (before node less)
       | inr past ↦
           let here : node ≡ n = omega (arith, below, past) in
           record {

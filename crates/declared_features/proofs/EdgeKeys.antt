@@ -107,7 +107,8 @@ kind_of_pair e f is = (ap (λ (p : EdgeKind). p.0) is, ap (λ (p : EdgeKind). p.
 -- this depends on the edge, the kind and the link of a row alone
 abbrev pub Moves : (DependencyRow → Type 0) → Type 0
 Moves P =
-    (row other : DependencyRow) → row.edge.now ≡ other.edge.now → row.kind ≡ other.kind → row.linked ≡ other.linked → P row
+    (row other : DependencyRow) → row.edge.now ≡ other.edge.now → row.kind ≡ other.kind → row.linked ≡ other.linked
+    → P row
     → P other
 
 pub edge_of_row : (graph : DeclaredGraph) (node : ℕ) (rows : List DependencyRow) (k : ℕ) (row : DependencyRow)
@@ -139,7 +140,8 @@ key_moves graph key row other edge kind link such = record {
   kind = subst (λ (r : KindRow). r.kind ≡ key.1) kind such.kind;
 }
 
-pub edge_moves : (graph : DeclaredGraph) (node : ℕ) (declared : DeclaredDependency) → Moves (λ row. IsOf graph node row declared)
+pub edge_moves : (graph : DeclaredGraph) (node : ℕ) (declared : DeclaredDependency)
+    → Moves (λ row. IsOf graph node row declared)
 edge_moves graph node declared row other edge kind link such = record {
   alike = record {
     kind = subst (λ (r : KindRow). r.kind ≡ declared.kind) kind such.alike.kind;

@@ -62,7 +62,8 @@ pub filtered_enabled : (graph : DeclaredGraph) (node : ℕ) (declared : Declared
     → HasName enabled (toml_name declared)
 filtered_enabled graph node declared enabled just is optional = (just (toml_name declared)).1 (is.enabled optional)
 
-pub filtered_key : (graph : DeclaredGraph) (node : ℕ) (declared : DeclaredDependency) (keys : BTreeSet StoredKey) (has_key : Bool)
+pub filtered_key : (graph : DeclaredGraph) (node : ℕ) (declared : DeclaredDependency) (keys : BTreeSet StoredKey)
+    (has_key : Bool)
     → AreKeysOf graph node keys → SaysKey keys declared has_key → IsFilteredOut graph node declared → has_key ≡ true
     → ⊥
 filtered_key graph node declared keys has_key keys_are says is found =

@@ -68,7 +68,8 @@ element_at xs k below =
 
 -- ---- rows
 
-row_grown : (kinds more : List EdgeKind) (links : List LinkedEdge) (k : ℕ) (row : DependencyRow) → IsRowAt kinds links k row
+row_grown : (kinds more : List EdgeKind) (links : List LinkedEdge) (k : ℕ) (row : DependencyRow)
+    → IsRowAt kinds links k row
     → IsRowAt (kinds ++ more) links k row
 row_grown kinds more links k row is =
     record { index = is.index; kind = get_grown kinds more k _ is.kind; link = is.link }

@@ -44,7 +44,8 @@ before_more fields more d wrong first = record {
 }
 
 pub subject_fits : (d : Data) (name : List ℕ) (kind : Kind) (condition : Option (List ℕ))
-    → text_at (codes "name") d ≡ Some name → kind_at d ≡ Some kind → condition_at d ≡ Some condition → All (Fits d) fields_of_subject
+    → text_at (codes "name") d ≡ Some name → kind_at d ≡ Some kind → condition_at d ≡ Some condition
+    → All (Fits d) fields_of_subject
 subject_fits d name kind condition named of_kind under =
     All-cons (Fits d) (codes "name", expected.Text)
     ((codes "kind", expected.Kind) ∷ (codes "target", expected.Condition) ∷ [])

@@ -48,7 +48,8 @@ pub record IsDescribedAt (graph : DeclaredGraph) (requested : RequestedFeatures)
 abbrev pub AreDescribed : DeclaredGraph → RequestedFeatures → ResolverInput → Type 0
 AreDescribed graph requested described =
     (node : ℕ) → node < length graph.linked.now.packages.items
-    → IsDescribedAt graph requested (declared_indexes graph.declared.now) described.packages.items described.edges.items node
+    → IsDescribedAt graph requested (declared_indexes graph.declared.now) described.packages.items
+    described.edges.items node
 
 -- the described packages are those from before, and maybe more
 pub record KeepsDescribed (old new : ResolverInput) : Type 0 where

@@ -40,7 +40,8 @@ abbrev pub dependencies_at : Declarations → ℕ → List DeclaredDependency
 dependencies_at declarations node = dependencies_in (manifest_at declarations node)
 
 -- a package of this name has no library
-pub record IsWithoutLibrary (packages : List Package) (manifests : List PackageDeclaration) (name : List ℕ) : Type 0 where
+pub record IsWithoutLibrary (packages : List Package) (manifests : List PackageDeclaration) (name : List ℕ) : Type
+    0 where
   pub index : ℕ
   pub unit : Package
   pub manifest : PackageDeclaration

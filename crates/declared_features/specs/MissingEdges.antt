@@ -100,7 +100,8 @@ pub record IsFirst {X : Type 0} (P : X → Type 0) (xs : List X) (x : X) : Type 
 
 -- by the order of the nodes, and then by that in which their packages declare dependencies, this is the first for which
 -- this holds
-pub record IsFirstMissing (graph : DeclaredGraph) (P : ℕ → DeclaredDependency → Type 0) (found : MissingEdge) : Type 0 where
+pub record IsFirstMissing (graph : DeclaredGraph) (P : ℕ → DeclaredDependency → Type 0) (found : MissingEdge) : Type
+    0 where
   pub node : found.node < length graph.metadata.now.nodes.items
   pub declared : IsFirst (P found.node) (dependencies_at graph.declared.now found.node) found.declared.now
   pub earlier : (k : ℕ) → k < found.node → ¬ Any (P k) (dependencies_at graph.declared.now k)

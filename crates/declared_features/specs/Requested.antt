@@ -89,7 +89,8 @@ pub record AreRequested (requested : RequestedFeatures) (called : List ℕ) (at 
       (λ m. SomeStandsFor at node named entries m ⊎ IsOneOfAll requested.all count m)
 
 -- there is a list more than these, of which this holds, exactly if the package is concerned
-pub record HasLast (concerned : Bool) (IsLast : List FeatureValue → Type 0) (count : ℕ) (lists : List (Vec FeatureValue Global))
+pub record HasLast (concerned : Bool) (IsLast : List FeatureValue → Type 0) (count : ℕ)
+    (lists : List (Vec FeatureValue Global))
     : Type 0 where
   pub lengths : length lists ≡ cond concerned (count + 1) count
   pub last : concerned ≡ true → (members : Vec FeatureValue Global) × (slice_get lists count ≡ Some members)

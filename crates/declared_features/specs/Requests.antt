@@ -26,7 +26,8 @@ IsRequested at to declared index =
     Any (λ feature. at to feature.now ≡ Some index) declared.features.items ⊎ IsDefault at to declared index
 
 -- the dependency of a node's package, as it is declared, with its edge
-pub record IsNamedOf (at : FeatureIndexes) (node : ℕ) (row : DependencyRow) (declared : DeclaredDependency) (found : Named) : Type 0 where
+pub record IsNamedOf (at : FeatureIndexes) (node : ℕ) (row : DependencyRow) (declared : DeclaredDependency)
+    (found : Named) : Type 0 where
   pub name : found.name.now ≡ toml_name declared
   pub to : found.dependency.to ≡ row.linked.to
   pub kind : found.dependency.kind ≡ row.linked.kind

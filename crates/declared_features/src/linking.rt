@@ -254,7 +254,8 @@ struct Lists<'m, 'a> {
 impl<'a> Named<'a> {
     /// Returns the member that an entry stands for, of this dependency at an index.
     fn member(&self, names: &Names<'a>, entry: FeatureEntry<'a>, i: usize) -> Option<FeatureValue>
-        ensures { (m : FeatureValue) → (result ≡ Some m) ↔ IsOfDependency (index_in names.now) entry.entry i self.now m }
+        ensures { (m : FeatureValue) → (result ≡ Some m) ↔ IsOfDependency (index_in names.now) entry.entry i self.now
+            m }
     {
         match entry {
             FeatureEntry::Feature(_) => None,

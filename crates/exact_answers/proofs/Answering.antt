@@ -17,7 +17,8 @@ use Rattle.exact_answers.specs.Inside.Searches.{goal_trees, SaysFound, Searched,
 use Rattle.exact_answers.specs.Inside.Searches.{MayBeFound}
 use Rattle.exact_answers.specs.Answers.{IsFactOfExample, AreExample}
 
-allowed : (k : FactConstraints) (s : FactSet) → IsOver (base_of k) s → truth s (tree_of k.assumed.now) ≡ true → IsAllowed k s
+allowed : (k : FactConstraints) (s : FactSet) → IsOver (base_of k) s → truth s (tree_of k.assumed.now) ≡ true
+    → IsAllowed k s
 allowed k s over h =
     record { partly_known = over.partly_known; one_value = over.one_value; assumed_true = h }
 

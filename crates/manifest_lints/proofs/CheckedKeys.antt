@@ -92,7 +92,8 @@ spells_nothing text (spelled.Condition p) h read = absurd (true≢false h)
 spells_nothing text (spelled.ByCargo m) h read = read
 spells_nothing text (spelled.Refused e) h read = read
 
-module _ (k : FactConstraints) (ds : List DeclaredEntry) (r : ReadKey) (key : AnalysedKey) (known : IsKnown ds r key) where
+module _ (k : FactConstraints) (ds : List DeclaredEntry) (r : ReadKey) (key : AnalysedKey)
+    (known : IsKnown ds r key) where
   spelled_is : key.read.now.spelled ≡ r.spelled
   spelled_is = ap (λ z. z.spelled) known.read
 

@@ -339,7 +339,8 @@ bit_of words j l below =
     let bit : (64 * j + l) % 64 ≡ l = omega arith in
     λ i. nat_eq (bit_at (get_or words (word i) 0) (bit i)) 1
 
-module _ (k : FactConstraints) (e d : Tree) (allows : AllowsRustcs k) (alike : AreEquivalent k (Expression e) (Expression d))
+module _ (k : FactConstraints) (e d : Tree) (allows : AllowsRustcs k)
+    (alike : AreEquivalent k (Expression e) (Expression d))
     (x y : Class) (first : IsClassOf e x) (second : IsClassOf d y) where
   at_place : (t : ℕ) → has x.targets t ≡ has y.targets t
   at_place t = elim (cases_lt t COUNT) [
@@ -536,7 +537,8 @@ module _ (ws : List ℕ) (t : ℕ) (set : TargetSet) (e : Tree) (c : Condition)
 
 -- ---- what is told of a class and its part
 
-pub among_some : {E : Type 0} (k : FactConstraints) (keys : Keys) (c : Condition) (class : Class) (number : Option ℕ) (n : ℕ)
+pub among_some : {E : Type 0} (k : FactConstraints) (keys : Keys) (c : Condition) (class : Class) (number : Option ℕ)
+    (n : ℕ)
     (r : Result Earlier E) → number ≡ Some n → IfOk r (TellsUnlike k keys c (part_of class number))
     → IfOk r (TellsUnlike k keys c (part_of class None))
     → IfOk r (λ a. IsTrue (is_unlike a) → AreUnlike k keys c class number)

@@ -65,7 +65,8 @@ module _ (k : FactConstraints) where
 
 -- ---- a key that is told unlike all
 
-module _ (k : FactConstraints) (es : List Entry) (ns : List ℕ) (old : Keys) (c : Condition) (members : AreMembers es old)
+module _ (k : FactConstraints) (es : List Entry) (ns : List ℕ) (old : Keys) (c : Condition)
+    (members : AreMembers es old)
     (before : AreCovered k es ns old) where
   no_member : (r : Earlier) → TellsNoneEquivalent k old c r → IsTrue (is_unlike r) → IsExpression c
       → (d : Condition) → AreEquivalent k d c
@@ -164,7 +165,8 @@ none_covered k ns keys classed = record {
   covered = λ d n tree settled. let within = at_within (λ x. x ≡ d) [] n settled.one in absurd (omega arith);
 }
 
-module _ (k : FactConstraints) (es : List Entry) (e : Entry) (ns more : List ℕ) (old : Keys) (before : AreCovered k es ns old)
+module _ (k : FactConstraints) (es : List Entry) (e : Entry) (ns more : List ℕ) (old : Keys)
+    (before : AreCovered k es ns old)
   where
     -- a key that was settled before the last one
     was_settled : (d : Condition) (n : ℕ) (h : IsSettledAt (es ++ e ∷ []) (ns ++ more) d n) (rest : List Entry)

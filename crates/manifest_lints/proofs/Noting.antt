@@ -105,7 +105,8 @@ pub none_past : (k : FactConstraints) (ms : List Member) (keys : Keys) (c : Cond
 none_past k ms keys c i are past n is alike =
     true≢false (sym (lt-ltb i (length ms) (subst (λ (xs : List Member). i < length xs) (sym are) is.0)) ∙ past)
 
-pub none_compared : (k : FactConstraints) (keys : Keys) (c : Condition) (ns : List ℕ) → NoneIsEquivalent k keys c (take 0 ns)
+pub none_compared : (k : FactConstraints) (keys : Keys) (c : Condition) (ns : List ℕ)
+    → NoneIsEquivalent k keys c (take 0 ns)
 none_compared k keys c ns =
     All-nil (λ n. (m : Member) → IsMemberAt keys m n → AreEquivalent k (condition_of m.1.now) c → ⊥)
 

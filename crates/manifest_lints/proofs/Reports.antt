@@ -36,7 +36,8 @@ next_entries reads i d within =
     ∙ ap (map entry_read) (sym (take_more reads i d within))
 
 -- a key that is named stands before
-found_within : (k : FactConstraints) (ds : List DeclaredEntry) (es : List Entry) (ns : List ℕ) (e : Entry) (codes : CodeSet)
+found_within : (k : FactConstraints) (ds : List DeclaredEntry) (es : List Entry) (ns : List ℕ) (e : Entry)
+    (codes : CodeSet)
     (earlier : Earlier) (is_open : Bool) → IsFound k ds es ns e codes earlier is_open
     → IfSome (named_place earlier) (λ n. n < length es)
 found_within k ds es ns e codes earlier is_open (inl spelled) =
@@ -69,7 +70,8 @@ module _ (reads : List ReadKey) (i : ℕ) (d : ReadKey) (within : i < length rea
       (is (omega arith) e ∙ ap (λ (x : Entry). x.0) (before_is n e before)) names
   names_by None f before is names = tt
 
-  pub one_more : (k : FactConstraints) (ds : List DeclaredEntry) (key : AnalysedKey) (codes : CodeSet) (earlier : Earlier)
+  pub one_more : (k : FactConstraints) (ds : List DeclaredEntry) (key : AnalysedKey) (codes : CodeSet)
+      (earlier : Earlier)
       (is_open : Bool)
       (old new : List Finding) (before_open now_open : List ℕ)
       → AreFindingsOn k ds (map entry_read (take i reads)) old before_open
@@ -153,7 +155,8 @@ module _ (p : KeyLint → Bool) (n : ℕ) (cs : List KeyLint) (i : ℕ) (d : Key
       key init old new before now)
 
 -- all codes were gone through
-pub all_codes : (p : KeyLint → Bool) (n i : ℕ) (cs : List KeyLint) (other : List ℕ) (key : AnalysedKey) (init new : List Finding)
+pub all_codes : (p : KeyLint → Bool) (n i : ℕ) (cs : List KeyLint) (other : List ℕ) (key : AnalysedKey)
+    (init new : List Finding)
     → length cs ≤ i → AddsFindings (marked n (filter p (take i cs))) other key init new
     → AddsFindings (marked n (filter p cs)) other key init new
 all_codes p n i cs other key init new done =

@@ -69,7 +69,8 @@ AreTooLong es text = MAX_COMPARISON_WORK < length es * (bytes_of es + length tex
 -- the reason why something may be left open about a key after others that is a condition: too many parentheses are
 -- nested, or too many names and keys are open; there are too few case splits for the condition, or for comparing it
 -- with that of a key before it; or there are too many keys before it, or too many for so many bytes
-pub data MayBeOpen (k : FactConstraints) (ds : List DeclaredEntry) (es : List Entry) (text : List ℕ) (c : Condition) : Type 0
+pub data MayBeOpen (k : FactConstraints) (ds : List DeclaredEntry) (es : List Entry) (text : List ℕ) (c : Condition) :
+    Type 0
   where
     too_deep : IsNestedBeyond text MAX_NESTING → MayBeOpen k ds es text c
     many_open : MAX_OPEN_NAMES < length (open_in (classified_in ds c)) → MayBeOpen k ds es text c
@@ -80,7 +81,8 @@ pub data MayBeOpen (k : FactConstraints) (ds : List DeclaredEntry) (es : List En
 
 -- whether a lint applies to a key after others that is a condition, about which something is left open or not, given
 -- the knowledge about each target and the declarations
-abbrev pub Holds : FactConstraints → List DeclaredEntry → List Entry → Entry → Condition → Bool → KeyLint → Bool → Type 0
+abbrev pub Holds : FactConstraints → List DeclaredEntry → List Entry → Entry → Condition → Bool → KeyLint → Bool
+    → Type 0
 Holds k ds es e c is_open code.Refused b = b ≡ false
 Holds k ds es e c is_open code.NoTable b = b ≡ is_no_table e.1
 Holds k ds es e c is_open code.ReadOtherwise b = b ≡ has_marked_literal (classified_in ds c)
@@ -122,7 +124,8 @@ pub record IsFoundUnspelled (e : Entry) (codes : CodeSet) (earlier : Earlier) (i
   pub unlike : earlier ≡ Unlike
   pub settled : is_open ≡ false
 
-abbrev pub IsFound : FactConstraints → List DeclaredEntry → List Entry → List ℕ → Entry → CodeSet → Earlier → Bool → Type 0
+abbrev pub IsFound : FactConstraints → List DeclaredEntry → List Entry → List ℕ → Entry → CodeSet → Earlier → Bool
+    → Type 0
 IsFound k ds es ns e codes earlier is_open =
     IsFoundSpelled k ds es ns e codes earlier is_open ⊎ IsFoundUnspelled e codes earlier is_open
 
@@ -178,7 +181,8 @@ pub record AreTold (ds : List DeclaredEntry) (es : List Entry) (e : Entry) (code
 
 -- the diagnostics on some keys are those that are reported on each, in the order of the keys, and the indexes are those
 -- of the keys that are left open
-pub data AreFindingsOn (k : FactConstraints) (ds : List DeclaredEntry) : List Entry → List Finding → List ℕ → Type 0 where
+pub data AreFindingsOn (k : FactConstraints) (ds : List DeclaredEntry) : List Entry → List Finding → List ℕ
+    → Type 0 where
   on_none : AreFindingsOn k ds [] [] []
   on_more : (es : List Entry) (e : Entry) (codes : CodeSet) (earlier : Earlier) (is_open : Bool)
       (fs told : List Finding) (ns : List ℕ) → AreFindingsOn k ds es fs ns

@@ -116,7 +116,8 @@ fn answers_alone<'a>(
         (condition_of condition.now) a) }
     ensures left_open { (IsKnown (declarations_of context.now.declared.now) key.now.read.now key.now)
         → key.now.read.now.spelled ≡ KeyMeaning.Condition condition.now → (es : List Entry)
-        → IfOk result (λ a. IsTrue a.is_open → MayBeOpen context.now.known.now (declarations_of context.now.declared.now)
+        → IfOk result (λ a. IsTrue a.is_open → MayBeOpen context.now.known.now
+        (declarations_of context.now.declared.now)
         es key.now.read.now.text.now (condition_of condition.now)) }
 {
     let open = open_names(alloc, &key.predicates)?;
@@ -192,7 +193,8 @@ fn answers_of<'a>(
     ensures left_open { (IsKnown (declarations_of context.now.declared.now) key.now.read.now key.now)
         → key.now.read.now.spelled ≡ KeyMeaning.Condition condition.now → (es : List Entry) → AreMembers es before.old
         → (IsTrue context.now.is_too_much → AreTooLong es key.now.read.now.text.now)
-        → IfOk result (λ a. IsTrue a.is_open → MayBeOpen context.now.known.now (declarations_of context.now.declared.now)
+        → IfOk result (λ a. IsTrue a.is_open → MayBeOpen context.now.known.now
+        (declarations_of context.now.declared.now)
         es key.now.read.now.text.now (condition_of condition.now)) }
     ensures same { IfOk result (λ a. same_place a.earlier ≡ noted before.old condition.entry) }
     ensures equivalent { IfOk result (λ a. IfSome (equivalent_place a.earlier)

@@ -66,7 +66,8 @@ pub record IsKnown (ds : List DeclaredEntry) (r : ReadKey) (k : AnalysedKey) : T
 abbrev pub holds_alone : AnalysedKey → CodeSet
 holds_alone k code.Refused = is_refused k.read.now.spelled
 holds_alone k code.NoTable = not (is_empty_list k.no_tables.items)
-holds_alone k code.ReadOtherwise = is_by_cargo k.read.now.spelled || has_marked_literal (classified_by k.predicates.items)
+holds_alone k code.ReadOtherwise = is_by_cargo k.read.now.spelled || has_marked_literal
+    (classified_by k.predicates.items)
 holds_alone k code.Unsupported = has_category category.Unsupported (classified_by k.predicates.items)
 holds_alone k code.UnknownTarget = k.is_unknown_target
 holds_alone k code.UnknownFact = has_category category.Mistaken (classified_by k.predicates.items)

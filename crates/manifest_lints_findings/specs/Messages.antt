@@ -68,7 +68,8 @@ IsFaultText key (spelled.ByCargo m) reason = reason ≡ []
 
 -- Cargo's first warnings on the key, and the number of the others
 abbrev pub cargo_words : CargoReading → List ℕ
-cargo_words m = shown_whole (join_by (λ s. string_bytes s) (codes " ") (take MAX_SHOWN m.warnings.items) ++ and_more m.count)
+cargo_words m = shown_whole (join_by (λ s. string_bytes s) (codes " ") (take MAX_SHOWN m.warnings.items) ++ and_more
+    m.count)
 
 -- the names that lose their raw mark, unless only Cargo accepts the key
 abbrev pub unmarked_text : List KeyPredicate → List ℕ
@@ -112,7 +113,8 @@ Shows code.ReadOtherwise k message = message ≡ read_otherwise k.read.now.spell
 Shows code.Unsupported k message =
     message
     ≡ codes "Cargo does not set "
-    ++ (listing (chosen (choice.OfCategory category.Unsupported) k.predicates.items) ++ codes " when it selects dependencies")
+    ++ (listing (chosen (choice.OfCategory category.Unsupported) k.predicates.items) ++ codes
+    " when it selects dependencies")
 Shows code.Never k message = message ≡ codes "no set of facts makes the condition true"
 Shows code.UnknownTarget k message = message ≡ no_target ++ codes " has this name"
 Shows code.UnknownFact k message =
@@ -133,7 +135,8 @@ said ts = flat_map (λ t. string_bytes t) ts
 -- the texts in the notes: Cargo's warnings
 abbrev pub noted_texts : KeyLint → AnalysedKey → List (List ℕ)
 noted_texts code.ReadOtherwise k = cargo_noted k.read.now.spelled
-noted_texts code.Unsupported k = unsupported_in (chosen (choice.OfCategory category.Unsupported) k.predicates.items) ∷ []
+noted_texts code.Unsupported k = unsupported_in (chosen (choice.OfCategory category.Unsupported) k.predicates.items) ∷
+    []
 noted_texts _ k = []
 
 -- the texts in the helps: the canonical form of a key that is not in it, and else what can replace the key

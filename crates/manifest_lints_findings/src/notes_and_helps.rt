@@ -185,7 +185,8 @@ fn warnings_on(alloc: Global, facts: &[KeyPredicate<'_>]) -> Result<Vec<String>,
 /// Returns the note on facts that do not select dependencies: Cargo's warnings, on one line.
 fn unsupported_note(alloc: Global, key: &AnalysedKey<'_>) -> Result<String, AllocError>
     ensures { IfOk result (λ s. Mentions
-        (unsupported_in (chosen (Choice.OfCategory Category.Unsupported) key.now.predicates.items) ∷ []) (string_bytes s)) }
+        (unsupported_in (chosen (Choice.OfCategory Category.Unsupported) key.now.predicates.items) ∷ [])
+        (string_bytes s)) }
 {
     let facts = chosen(
         alloc,
@@ -201,7 +202,8 @@ fn unsupported_note(alloc: Global, key: &AnalysedKey<'_>) -> Result<String, Allo
 /// Returns the notes on facts that do not select dependencies.
 fn notes_on_unsupported(alloc: Global, key: &AnalysedKey<'_>) -> Result<Vec<String>, AllocError>
     ensures { IfOk result (λ notes. Mentions
-        (unsupported_in (chosen (Choice.OfCategory Category.Unsupported) key.now.predicates.items) ∷ []) (said notes.items)) }
+        (unsupported_in (chosen (Choice.OfCategory Category.Unsupported) key.now.predicates.items) ∷ [])
+        (said notes.items)) }
 {
     let note = unsupported_note(alloc, key)?;
     only(alloc, note)

@@ -37,12 +37,14 @@ one_chosen q c ds i d decision init old new within before is now =
             map-append (λ (s : ChosenRow). s.0) before.added (r ∷ [])
             ∙ ap (λ rs. rs ++ row_of x ∷ []) before.such.dependencies
             ∙ sym (map-append row_of (take i ds) (x ∷ [])) ∙ ap (map row_of) (sym (take_more ds i d within));
-        decisions = All-push (λ (s : ChosenRow). IsDecisionFor q s.0.kind c s.1) before.added r before.such.decisions is;
+        decisions = All-push (λ (s : ChosenRow). IsDecisionFor q s.0.kind c s.1) before.added r before.such.decisions
+            is;
       };
     }
 
 -- the dependencies in a key's table, by its condition, are the rows of the key
-pub of_key : (q : Question) (e : Entry) (c : Condition) (t : Members) (ds : List DependencyRow) (old new : List DependencyDecision)
+pub of_key : (q : Question) (e : Entry) (c : Condition) (t : Members) (ds : List DependencyRow)
+    (old new : List DependencyDecision)
     → IsConditionText e.0 c → as_table e.1 ≡ Some t → ds ≡ rows_of (Some e.0) t → Adds (AreChosen q c ds) old new
     → Adds (AreRowsOfKey q e) old new
 of_key q e c t ds old new spelled at_table are adds = record {

@@ -65,7 +65,8 @@ impl PackageTargets {
     ) -> TargetSet
         // A target is in the set exactly if the dependency is followed on it, and leads to a package for the side.
         ensures { (k : ℕ) → k < COUNT → IsTrue (is_member result k)
-            ↔ IsFollowedTo self.now query.entry.packages.now query.entry.kinds query.entry.host from dependency.now to k }
+            ↔ IsFollowedTo self.now query.entry.packages.now query.entry.kinds query.entry.host from dependency.now to
+            k }
     {
         if !query
             .kinds

@@ -114,7 +114,8 @@ pair_had key v h =
 its_name : (n : Name) → is_named n.name plain_names ≡ true
     → (category_of (Alone n) ≡ category.Rustcs) ⊎ (category_of (Alone n) ≡ category.Unsupported)
 its_name n is =
-    by_test ((category_of (Alone n) ≡ category.Rustcs) ⊎ (category_of (Alone n) ≡ category.Unsupported)) (is_unsupported_name n)
+    by_test ((category_of (Alone n) ≡ category.Rustcs) ⊎ (category_of (Alone n) ≡ category.Unsupported))
+    (is_unsupported_name n)
     (λ u. inr (takes (is_unsupported_name n) _ _ u))
     (λ u. inl (skips (is_unsupported_name n) _ _ _ u (takes (is_named n.name plain_names) _ _ is)))
 

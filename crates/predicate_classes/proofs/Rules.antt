@@ -159,7 +159,8 @@ sorted (KeyPair k v) = pair_classified k v
 -- ---- each rule gives its category
 
 warned_category : (c : CfgValue) → attribute_warning c ≢ [] → category_of c ≡ category.Unsupported
-warned_category (Alone n) h = takes (is_unsupported_name n) _ _ (if_warned (is_unsupported_name n) (unsupported_name n) h)
+warned_category (Alone n) h = takes (is_unsupported_name n) _ _
+    (if_warned (is_unsupported_name n) (unsupported_name n) h)
 warned_category (KeyPair k v) h =
     takes (bytes_eq k.name (codes "feature")) _ _ (if_warned (bytes_eq k.name (codes "feature")) unsupported_feature h)
 

@@ -101,7 +101,8 @@ is_taken_for_rustcs name = is_word_for_rustcs (map to_ascii_lowercase name)
 
 -- the category of a name or key that rustc does not have
 abbrev pub category_of_other : List ℕ → Category
-category_of_other name = cond (is_taken_for_rustcs name) category.Mistaken (cond (is_near name) category.Mistaken category.Custom)
+category_of_other name = cond (is_taken_for_rustcs name) category.Mistaken
+    (cond (is_near name) category.Mistaken category.Custom)
 
 -- the category of a value of `target_feature`
 abbrev pub category_of_feature : List ℕ → Category

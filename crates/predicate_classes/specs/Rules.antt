@@ -95,7 +95,8 @@ HasCategoryOfRules c s = category_of c ≡ s ↔ IsOf c s
 
 -- a fact that some known target has is rustc's, or Cargo warns about it
 abbrev pub IsNoMistake : CfgValue → Type 0
-IsNoMistake c = IsTrue (is_had table_keys c) → (category_of c ≡ category.Rustcs) ⊎ (category_of c ≡ category.Unsupported)
+IsNoMistake c = IsTrue (is_had table_keys c) → (category_of c ≡ category.Rustcs) ⊎
+    (category_of c ≡ category.Unsupported)
 
 -- ---- with declarations
 
@@ -105,9 +106,11 @@ IsSettled s = with_declaration true s ≢ category.Mistaken × with_declaration 
 
 -- the category stays, or there is a declaration and it becomes declared
 abbrev pub StaysOrIsDeclared : Bool → Category → Type 0
-StaysOrIsDeclared declared s = (with_declaration declared s ≡ s) ⊎ (IsTrue declared × (with_declaration declared s ≡ category.Declared))
+StaysOrIsDeclared declared s = (with_declaration declared s ≡ s) ⊎
+    (IsTrue declared × (with_declaration declared s ≡ category.Declared))
 
 -- the categories of what rustc sets, and of what Cargo warns about, stay
 abbrev pub StaysRustcsOrCargos : Bool → Type 0
 StaysRustcsOrCargos declared =
-    (with_declaration declared category.Rustcs ≡ category.Rustcs) × (with_declaration declared category.Unsupported ≡ category.Unsupported)
+    (with_declaration declared category.Rustcs ≡ category.Rustcs) ×
+    (with_declaration declared category.Unsupported ≡ category.Unsupported)

@@ -336,7 +336,8 @@ fn class_of_panic(value: &str) -> Class
 
 /// Returns the class of a pair with this key and value.
 fn class_of_pair(alloc: Global, c: &Cfg, key: &str, value: &str) -> Result<Class, AllocError>
-    ensures { IfOk result (λ s. category_in s ≡ category_of_pair key.now value.now (is_had table_keys (value_of c.now))) }
+    ensures { IfOk result (λ s. category_in s ≡ category_of_pair key.now value.now
+        (is_had table_keys (value_of c.now))) }
 {
     if key == "feature" {
         return Ok(Class::Unsupported);

@@ -62,7 +62,8 @@ fn key_predicate<'a>(
     is_first: bool,
     declared: &ExpectedCfgs<'_>,
 ) -> Result<KeyPredicate<'a>, AllocError>
-    ensures { IfOk result (λ f. classified_of f ≡ classified_with_declarations (declarations_of declared.now) (value_of fact.now)) }
+    ensures { IfOk result (λ f. classified_of f ≡ classified_with_declarations (declarations_of declared.now)
+        (value_of fact.now)) }
 {
     let class = class_of(alloc, fact)?.with_declaration(declared.declares(fact));
     Ok(KeyPredicate {
@@ -114,7 +115,8 @@ fn open_flags<'a>(alloc: Global) -> Result<Vec<&'a str>, AllocError>
 
 /// Appends the name or key of a fact that is open.
 fn push_open<'a>(names: &mut Vec<&'a str>, predicate: &KeyPredicate<'a>) -> Result<(), AllocError>
-    ensures { OnOk result (names_of names.new.items ≡ names_of names.old.items ++ opened_by (classified_of predicate.now)) }
+    ensures { OnOk result (names_of names.new.items ≡ names_of names.old.items ++ opened_by
+        (classified_of predicate.now)) }
 {
     if predicate.class.category().is_open() {
         names.push(name_in(predicate.fact))?;

@@ -72,7 +72,8 @@ names_apart j k before below same =
     not_less text_cmp nat_list_cmp_total (target_name j) (ap (text_cmp (target_name j)) same ∙ less)
 
 known_name : (k : ℕ) → k < COUNT → name_at known_rows k ≡ target_name k
-known_name k below = ap (λ (r : Row). r.name) (get_or-map-range_with_len known_row 0 COUNT k k no_row below (omega arith))
+known_name k below = ap (λ (r : Row). r.name)
+    (get_or-map-range_with_len known_row 0 COUNT k k no_row below (omega arith))
 
 pub known_distinct : AreDistinct known_rows
 known_distinct j k before below same =

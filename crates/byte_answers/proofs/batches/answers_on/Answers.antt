@@ -37,7 +37,8 @@ keys-preserved c =
       inv.0 ++ key ∷ [],
       (
         one_read inv.0 c.args.keys.now c.keys.left.now key c.in-Some.others.now inv.1.0 c.in-Some.ensures,
-        subst (λ (z : List ℕ). AreKeyAnswers name facts (inv.0 ++ key ∷ []) z) (sym {A = List ℕ} c.in_ok-push.ensures.items)
+        subst (λ (z : List ℕ). AreKeyAnswers name facts (inv.0 ++ key ∷ []) z)
+            (sym {A = List ℕ} c.in_ok-push.ensures.items)
             (one_answered name facts inv.0 c.keys.answers.items key c.answer_on.result inv.1.1 c.answer_on.ensures),
       ),
     )

@@ -31,14 +31,16 @@ returns-in-Ok c =
 pub returns-in-Err : goal.returns-in-Err
 returns-in-Err c =
     let answer : Result Platform ReadError = Err c.in-Err.error in
-    let fault = expression_fault CfgExpr Platform c.args.s.now c.in-Some.inner.now c.in-Err.error c.in-Some.ensures c.in-Err.ensures.orig
+    let fault = expression_fault CfgExpr Platform c.args.s.now c.in-Some.inner.now c.in-Err.error c.in-Some.ensures
+    c.in-Err.ensures.orig
     c.in-Err.ensures.fault in
     let none = refused_answer condition_laws {B = Platform} c.args.s.now answer fault in
     record {
       condition = tt;
       fault = fault;
       span =
-          expression_span CfgExpr Platform c.args.s.now c.in-Some.inner.now c.in-Err.error c.in-Some.ensures c.in-Err.ensures.orig
+          expression_span CfgExpr Platform c.args.s.now c.in-Some.inner.now c.in-Err.error c.in-Some.ensures
+          c.in-Err.ensures.orig
           c.in-Err.ensures.span;
       well_formed = tt;
       refused = none;

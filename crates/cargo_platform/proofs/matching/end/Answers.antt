@@ -21,7 +21,8 @@ returns-in_err-closed-clause-refused c =
 pub returns-in_default-2-clause-ended : goal.returns-in_default-2-clause-ended
 returns-in_default-2-clause-ended c = λ fs old from ends.
     let now = c.groups.invariant.ends fs old from ends in
-    let P : Option Bool → Type 0 = λ z. Begins fs old c.end_member.new.reader.ahead from (words c.end_member.new.levels) z in
+    let P : Option Bool → Type 0 = λ z. Begins fs old c.end_member.new.reader.ahead from
+    (words c.end_member.new.levels) z in
     subst P c.in_default-2.is (c.in_ok-closed.ensures.ended fs old from now (c.in-Some.ensures fs now.gs now.hold))
 
 pub returns-in_default-2-clause-shorter : goal.returns-in_default-2-clause-shorter
@@ -35,7 +36,8 @@ groups-preserved c = record {
   ends =
       λ fs old from ends.
       let now = c.groups.invariant.ends fs old from ends in
-      let P : Option Bool → Type 0 = λ z. Begins fs old c.end_member.new.reader.ahead from (words c.end_member.new.levels) z in
+      let P : Option Bool → Type 0 = λ z. Begins fs old c.end_member.new.reader.ahead from
+      (words c.end_member.new.levels) z in
       subst P c.in-Some-2.is (c.in_ok-closed.ensures.ended fs old from now (c.in-Some.ensures fs now.gs now.hold));
   shorter = omega (arith, c.in_ok-closed.ensures.shorter, c.groups.invariant.shorter);
 }

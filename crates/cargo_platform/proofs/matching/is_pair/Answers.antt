@@ -20,4 +20,5 @@ returns-else-eq c =
     let no : bytes_eq (string_bytes c.in-KeyPair.other.name) c.args.key.now ≡ false =
     ap (λ z. bytes_eq z c.args.key.now) (sym c.as_str.ensures.value) ∙ sym c.eq.ensures ∙ c.if-eq.false in
     rw c.in-KeyPair.is
-    (c.if-eq.false ∙ sym (other_key (name_of c.in-KeyPair.other) k (string_bytes c.in-KeyPair.with) c.args.value.now no))
+    (c.if-eq.false ∙ sym (other_key (name_of c.in-KeyPair.other) k (string_bytes c.in-KeyPair.with) c.args.value.now
+    no))

@@ -15,7 +15,8 @@ features-preserved c =
     let fs = c.in-Some.manifest.now.features in
     let i = c.features.i in
     let below : i < length fs.items = omega (arith, c.features-test.true, c.len-i-end.ensures, fs.ok.0) in
-    index_more (λ (f : Feature). f.name.now) fs.items i c.index.result.now (index_at c.features.indexes) (index_at c.add.new.self) below
+    index_more (λ (f : Feature). f.name.now) fs.items i c.index.result.now (index_at c.features.indexes)
+    (index_at c.add.new.self) below
     c.index.ensures c.in_ok-add.ensures.added c.features.invariant
 
 pub returns : goal.returns
@@ -24,4 +25,5 @@ returns c =
     let past : length fs.items ≤ c.features.i = omega (arith, c.features-test.false, c.len-i-end.ensures, fs.ok.0) in
     subst (λ (o : Option (Bor PackageDeclaration)). (q : List ℕ)
     → index_at c.features.indexes q ≡ feature_index (features_in (option_copied o)) q) (sym c.in-Some.is)
-    (index_whole (λ (f : Feature). f.name.now) fs.items c.features.i (index_at c.features.indexes) past c.features.invariant)
+    (index_whole (λ (f : Feature). f.name.now) fs.items c.features.i (index_at c.features.indexes) past
+    c.features.invariant)

@@ -27,7 +27,8 @@ returns-clause-last c =
     let members = c.in_ok-members.members in
     let count : ℕ = length (features_at graph.declared.now lists.node) in
     let same : length features.items ≡ count =
-    c.in_ok-features.ensures.count ∙ ap (λ (o : Option PackageDeclaration). length (features_in o)) c.manifest.ensures in
+    c.in_ok-features.ensures.count ∙ ap (λ (o : Option PackageDeclaration). length (features_in o))
+    c.manifest.ensures in
     let Requested : List ℕ → ℕ → List FeatureValue → Type 0 =
     λ name n ms. AreRequested requested name (index_in lists.names.now) lists.node lists.found.now n ms in
     last_pushed (is_concerned requested lists.node c.args.unit.now) (Requested (name_at graph lists.node) count) count

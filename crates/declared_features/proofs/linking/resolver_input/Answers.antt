@@ -20,7 +20,8 @@ nodes-preserved c = (
       ∙ ap (λ (n : ℕ). n + 1) c.nodes.invariant.0,
   ap length c.in_ok-push-2.ensures.items ∙ length_push c.nodes.edges.items c.in_ok-package.its_edges
       ∙ ap (λ (n : ℕ). n + 1) c.nodes.invariant.1,
-  described_more c.args.graph.now c.args.requested.now (index_in c.in_ok-names.names) c.nodes.packages.items c.push.new.self.items
+  described_more c.args.graph.now c.args.requested.now (index_in c.in_ok-names.names) c.nodes.packages.items
+      c.push.new.self.items
       c.nodes.edges.items c.push-in-nodes.new.self.items c.in_ok-package.package c.in_ok-package.its_edges c.nodes.node
       c.in_ok-push.ensures.items c.in_ok-push-2.ensures.items c.nodes.invariant.0 c.nodes.invariant.1
       c.in_ok-package.ensures c.nodes.invariant.2,
@@ -37,8 +38,10 @@ returns-clause-nodes c node below =
     fun_ext (λ k. fun_ext (λ q. c.in_ok-names.ensures k q)) in
     let inside : node < c.nodes.node =
     omega (arith, below, c.nodes-test.false, c.len-node-end.ensures, units.ok.0) in
-    subst (λ (at : FeatureIndexes). IsDescribedAt graph c.args.requested.now at new.packages.items new.edges.items node) at
-    (described_grown graph c.args.requested.now (index_in names) c.nodes.packages.items new.packages.items c.nodes.edges.items
+    subst (λ (at : FeatureIndexes). IsDescribedAt graph c.args.requested.now at new.packages.items new.edges.items
+    node) at
+    (described_grown graph c.args.requested.now (index_in names) c.nodes.packages.items new.packages.items
+    c.nodes.edges.items
     new.edges.items
     kept.more kept.more_edges node kept.packages kept.edges (c.nodes.invariant.2 node inside))
 

@@ -16,8 +16,10 @@ use Rattle.declared_features.specs.declared.manifests.ManifestError.TheVariants 
 use Rattle.declared_features.proofs.manifests.manifest_of.Goals as goal
 
 -- the error in the features, after dependencies that were read
-lacks_features : (d : Data) (declared : List DeclaredDependency) → AreRowsAt IsDeclared (codes "dependencies") d declared
-    → fits expected.Features (get (codes "features") d) ≡ false → (wrong : FieldError) → wrong.field.now ≡ codes "features"
+lacks_features : (d : Data) (declared : List DeclaredDependency)
+    → AreRowsAt IsDeclared (codes "dependencies") d declared
+    → fits expected.Features (get (codes "features") d) ≡ false → (wrong : FieldError)
+    → wrong.field.now ≡ codes "features"
     → wrong.expected ≡ expected.Features → IsInManifest d (in_manifest.Field wrong)
 lacks_features d declared rows misfits wrong field what = (
   wrong_second (codes "dependencies", expected.List) (codes "features") expected.Features [] d wrong

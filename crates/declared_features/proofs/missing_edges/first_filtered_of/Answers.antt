@@ -24,13 +24,15 @@ returns-then-not-may_be_filtered_any-clause-none c some =
     let graph = c.args.searched.now.graph in
     let ds = c.in-Some.manifest.now.dependencies.items in
     let here : Any (IsFilteredOut graph c.args.node) ds =
-    subst (λ (o : Option PackageDeclaration). Any (IsFilteredOut graph c.args.node) (dependencies_in o)) (sym c.in-Some.ensures)
+    subst (λ (o : Option PackageDeclaration). Any (IsFilteredOut graph c.args.node) (dependencies_in o))
+    (sym c.in-Some.ensures)
     some in
     let may_be =
     any_as (IsFilteredOut graph c.args.node) (MayBeFiltered graph c.args.node) ds (λ d is. is.may_be) here in
     let yes =
     c.may_be_filtered_any.ensures
-    (subst (λ (l : List DeclaredDependency). Any (MayBeFiltered graph c.args.node) l) (sym c.deref.ensures.value) may_be) in
+    (subst (λ (l : List DeclaredDependency). Any (MayBeFiltered graph c.args.node) l) (sym c.deref.ensures.value)
+    may_be) in
     let no = c.if-not-may_be_filtered_any.true in
     cc
 
@@ -48,7 +50,8 @@ pub declared-preserved : goal.declared-preserved
 declared-preserved c =
     let ds = c.in-Some.manifest.now.dependencies in
     let below : c.declared.i < length ds.items = omega (arith, c.declared-test.true, c.len-i-end.ensures, ds.ok.0) in
-    none_next (IsFilteredOut c.args.searched.now.graph c.args.node) ds.items c.declared.i c.index-declared.result.now below
+    none_next (IsFilteredOut c.args.searched.now.graph c.args.node) ds.items c.declared.i c.index-declared.result.now
+    below
     c.index-declared.ensures
     (λ is. let yes = c.is_filtered_out.ensures.1 is in let no = c.if-is_filtered_out.false in cc) c.declared.invariant
 

@@ -10,7 +10,8 @@ returns-then-contains c =
     let condition = c.in-Some.condition.now in
     let is : option_copied c.args.declared.now.condition ≡ Some condition =
     ap (λ (o : Option (Bor (List ℕ))). option_copied o) c.in-Some.is in
-    let kept : IsKept metadata condition = (c.requires.kept condition).0 (sym c.contains.ensures ∙ c.if-contains.true) in (
+    let kept : IsKept metadata condition = (c.requires.kept condition).0
+    (sym c.contains.ensures ∙ c.if-contains.true) in (
       λ h. absurd (let e : false ≡ true = h in cc),
       λ may_be.
           let same : condition ≡ may_be.condition = some_same condition may_be.condition (sym is ∙ may_be.is) in

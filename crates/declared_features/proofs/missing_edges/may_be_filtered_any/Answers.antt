@@ -8,12 +8,14 @@ use Rattle.declared_features.proofs.missing_edges.may_be_filtered_any.Goals as g
 
 pub declared-preserved : goal.declared-preserved
 declared-preserved c =
-    none_next (MayBeFiltered c.args.searched.now.graph c.args.node) c.args.declared.now c.declared.i c.index-declared-i.result
+    none_next (MayBeFiltered c.args.searched.now.graph c.args.node) c.args.declared.now c.declared.i
+    c.index-declared-i.result
     c.declared-test.true c.index-declared-i.is
     (λ may_be. let yes = c.may_be_filtered.ensures.1 may_be in let no = c.if-may_be_filtered.false in cc)
     c.declared.invariant
 
 pub returns : goal.returns
 returns c some =
-    absurd (none_end (MayBeFiltered c.args.searched.now.graph c.args.node) c.args.declared.now c.declared.i c.declared-test.false
+    absurd (none_end (MayBeFiltered c.args.searched.now.graph c.args.node) c.args.declared.now c.declared.i
+    c.declared-test.false
     c.declared.invariant some)

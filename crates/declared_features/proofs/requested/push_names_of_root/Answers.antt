@@ -6,7 +6,8 @@ use Rattle.declared_features.proofs.Collecting.{adding_start, adding_next, addin
 use Rattle.declared_features.proofs.requested.push_names_of_root.Goals as goal
 
 pub names-init : goal.names-init
-names-init c = adding_start (texts_in c.args.texts.now.items) c.args.names.now (λ name t. without_root c.args.called.now name.now ≡ t)
+names-init c = adding_start (texts_in c.args.texts.now.items) c.args.names.now
+    (λ name t. without_root c.args.called.now name.now ≡ t)
 
 pub names-preserved : goal.names-preserved
 names-preserved c =

@@ -7,4 +7,5 @@ use Rattle.declared_features.proofs.requested.push_names_of_root.Given as goal
 
 abbrev pub invariant-names : goal.invariant-names
 invariant-names l =
-    Adds (texts_in l.initial.texts.items) (texts_in l.texts.items) (λ t. Any (λ name. without_root l.called name.now ≡ t) (take l.i l.names))
+    Adds (texts_in l.initial.texts.items) (texts_in l.texts.items)
+    (λ t. Any (λ name. without_root l.called name.now ≡ t) (take l.i l.names))

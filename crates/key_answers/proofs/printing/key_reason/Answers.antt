@@ -16,7 +16,8 @@ returns-then-not-is_unopened c =
     let not_unclosed : is_unclosed c.args.key.now ≡ false = sym c.is_unclosed.ensures ∙ c.if-is_unclosed.false in
     let closed : is_unopened c.args.key.now ≡ false = sym c.is_unopened.ensures ∙ c.if-not-is_unopened.true in
     IfOk-weaker c.error_text.result _ _
-    (λ reason text. of_other c.args.key.now c.args.error.now (string_bytes reason) not_unclosed closed text) c.error_text.ensures
+    (λ reason text. of_other c.args.key.now c.args.error.now (string_bytes reason) not_unclosed closed text)
+    c.error_text.ensures
 
 pub returns-in-Some : goal.returns-in-Some
 returns-in-Some c =
@@ -24,7 +25,8 @@ returns-in-Some c =
     let is : is_unopened c.args.key.now ≡ true = sym c.is_unopened.ensures ∙ c.if-not-is_unopened.false in
     let place = sym c.span.ensures ∙ c.in-Some.is in
     IfOk-weaker c.unopened_text.result _ _
-    (λ reason text. of_unopened c.args.key.now c.args.error.now (string_bytes reason) c.in-Some.span not_unclosed is place text)
+    (λ reason text. of_unopened c.args.key.now c.args.error.now (string_bytes reason) c.in-Some.span not_unclosed is
+    place text)
     c.unopened_text.ensures
 
 pub returns-in-None : goal.returns-in-None

@@ -23,7 +23,8 @@ returns-clause-left_open c = λ known is es members much holds.
     let p = condition_of c.args.condition.now in
     let key = c.args.key.now in
     let long : length key.predicates.items ≡ length (classified_in ds p) =
-    sym (length-map key.predicates.items classified_of) ∙ ap length (known.predicates ∙ ap (classified_of_spelled ds) is) in
+    sym (length-map key.predicates.items classified_of) ∙ ap length
+    (known.predicates ∙ ap (classified_of_spelled ds) is) in
     elim (one_or _ _ (sym c.either.ensures ∙ holds)) [
       | inl alone ↦ c.in_ok-answers.ensures.left_open known is es alone
       | inr beside ↦

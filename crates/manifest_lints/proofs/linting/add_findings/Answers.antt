@@ -9,10 +9,12 @@ codes-init c = adds_none c.args.other.now c.args.checked.now.key c.args.findings
 
 pub codes-preserved : goal.codes-preserved
 codes-preserved c =
-    one_code (is_reported (applicable_codes c.args.checked.now)) c.args.checked.now.key.place KEY_LINTS c.codes.code-index _
+    one_code (is_reported (applicable_codes c.args.checked.now)) c.args.checked.now.key.place KEY_LINTS
+    c.codes.code-index _
     c.codes-test.true c.args.other.now c.args.checked.now.key _ _ _ c.codes.invariant c.in_ok-add_finding.ensures
 
 pub returns : goal.returns
 returns c =
-    all_codes (is_reported (applicable_codes c.args.checked.now)) c.args.checked.now.key.place c.codes.code-index KEY_LINTS
+    all_codes (is_reported (applicable_codes c.args.checked.now)) c.args.checked.now.key.place c.codes.code-index
+    KEY_LINTS
     c.args.other.now c.args.checked.now.key c.args.findings.now.items _ c.codes-test.false c.codes.invariant

@@ -9,5 +9,6 @@ use Rattle.manifest_lints.proofs.linting.add_findings.Given as goal
 abbrev pub invariant-codes : goal.invariant-codes
 invariant-codes l =
     AddsFindings
-    (map (λ c. (Some l.checked.key.place, c)) (filter (is_reported (applicable_codes l.checked)) (take l.code-index KEY_LINTS)))
+    (map (λ c. (Some l.checked.key.place, c))
+    (filter (is_reported (applicable_codes l.checked)) (take l.code-index KEY_LINTS)))
     l.other l.checked.key l.initial.findings.items l.findings.items

@@ -75,7 +75,8 @@ keys-preserved c =
     record {
       findings = λ all.
           one_more c.args.read.now i c.index-read-place.result c.keys-test.true c.earlier_key-other.result.now k ds
-          f.key (applicable_codes f) f.answers.earlier f.answers.is_open _ _ _ _ (c.keys.invariant.findings all) (now all).0
+          f.key (applicable_codes f) f.answers.earlier f.answers.is_open _ _ _ _ (c.keys.invariant.findings all)
+          (now all).0
           c.earlier_key-other.ensures
           (record {
             read = get_or c.args.read.now i c.index-read-place.result;

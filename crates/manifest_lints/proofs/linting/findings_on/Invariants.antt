@@ -11,7 +11,8 @@ abbrev pub invariant-keys : goal.invariant-keys
 invariant-keys l = record {
   findings :
       All IsRead l.read
-      → AreFindingsOn l.context.known.now (declarations_of l.context.declared.now) (map entry_read (take l.place l.read))
+      → AreFindingsOn l.context.known.now (declarations_of l.context.declared.now)
+      (map entry_read (take l.place l.read))
       l.findings.items l.undecided.items;
   noted_keys : All IsRead l.read → AreNoted (map entry_read (take l.place l.read)) l.before;
   members : All IsRead l.read → AreMembers (map entry_read (take l.place l.read)) l.before;

@@ -15,7 +15,8 @@ use Rattle.manifest_lints.specs.Reports.{Entry, AreFindings, AreFindingsOn}
 use Rattle.manifest_lints.proofs.Rustcs.{allows_rustcs}
 use Rattle.manifest_lints.proofs.linting.report_on.Goals as goal
 
-of_keys : (k : FactConstraints) (ms : Members) (ds : List DeclaredEntry) (es fs : List Entry) (found : List Finding) (ns : List ℕ)
+of_keys : (k : FactConstraints) (ms : Members) (ds : List DeclaredEntry) (es fs : List Entry) (found : List Finding)
+    (ns : List ℕ)
     → AreFindingsOn k ds es found ns → IsDeclaredBy ms ds → es ≡ fs → k.facts.now ≡ [] → k.complete.now ≡ []
     → map (λ t. t.now) k.single.now ≡ map (λ t. t.now) ONE_VALUED.now
     → ((s : FactSet) → (truth s (tree_of k.assumed.now) ≡ true) ↔ KeepsFamilyRule s)

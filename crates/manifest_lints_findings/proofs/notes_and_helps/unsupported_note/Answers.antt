@@ -20,7 +20,8 @@ returns c =
     let warnings = c.in_ok-warnings.warnings.items in
     let counted : c.len.result ≡ length warnings = search rules in
     let joined = c.in_ok-words.ensures
-    ∙ (λ i. join_by (λ s. string_bytes s) (codes " ") (take MAX_SHOWN (c.deref-3.ensures.value i)) ++ and_more (counted i))
+    ∙ (λ i. join_by (λ s. string_bytes s) (codes " ") (take MAX_SHOWN (c.deref-3.ensures.value i)) ++ and_more
+    (counted i))
     ∙ joined_texts (λ s. string_bytes s) (codes " ") warnings
     ∙ ap (joined_first (λ t. t) (codes " ")) warnings_are in
     let shown = c.in_ok-text.ensures ∙ ap shown_whole (c.as_str.ensures.value ∙ joined) in

@@ -11,7 +11,8 @@ returns-then-entry-len c =
     let past : length deps ≤ c.args.entry.place =
     omega (arith, c.if-entry-len.true, c.len.ensures, c.args.unit.package.now.dependencies.ok.0) in
     subst (λ (o : Option Dependency). c.args.steps.now.items ≡ c.args.steps.now.items
-    ++ strong_at c.args.self c.args.unit.packages.now c.args.unit.at c.args.unit.package.now c.args.entry.from c.args.entry.place c.args.entry.feature o)
+    ++ strong_at c.args.self c.args.unit.packages.now c.args.unit.at c.args.unit.package.now c.args.entry.from
+    c.args.entry.place c.args.entry.feature o)
     (sym (slice_get_past deps c.args.entry.place past)) (sym (append-nil c.args.steps.now.items))
 
 pub returns : goal.returns
@@ -21,6 +22,7 @@ returns c =
     let inside : c.args.entry.place < length deps =
     omega (arith, c.if-entry-len.false, c.len.ensures, c.args.unit.package.now.dependencies.ok.0) in
     subst (λ (o : Option Dependency). c.strong_at.new.steps.items ≡ c.args.steps.now.items
-    ++ strong_at c.args.self c.args.unit.packages.now c.args.unit.at c.args.unit.package.now c.args.entry.from c.args.entry.place c.args.entry.feature o)
+    ++ strong_at c.args.self c.args.unit.packages.now c.args.unit.at c.args.unit.package.now c.args.entry.from
+    c.args.entry.place c.args.entry.feature o)
     (sym (slice_get_read deps (length deps) c.args.entry.place d (omega arith) inside c.index-dependency.ensures))
     c.in_ok-strong_at.ensures

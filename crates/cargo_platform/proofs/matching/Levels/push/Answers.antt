@@ -15,5 +15,6 @@ returns c = λ fs gs h.
     ] in
     let both = opened_level fs c.args.kind gs c.if-is_settled.level code c.is_settled.result c.code_of-level.ensures
     (c.is_settled.ensures.settled fs gs h) bits in
-    pushed fs c.args.self.now.bits _ c.if-is_settled.level (reverse c.args.self.now.outer.items) (fresh c.args.kind) gs h
+    pushed fs c.args.self.now.bits _ c.if-is_settled.level (reverse c.args.self.now.outer.items) (fresh c.args.kind) gs
+    h
     both.1 both.0 refl

@@ -40,7 +40,8 @@ features-preserved c =
 pub returns-clause-count : goal.returns-clause-count
 returns-clause-count c =
     let fs = c.in-Some.manifest.now.features in
-    subst (λ (o : Option (Bor PackageDeclaration)). length c.features.features.items ≡ length (features_in (option_copied o)))
+    subst (λ (o : Option (Bor PackageDeclaration)). length c.features.features.items ≡ length
+    (features_in (option_copied o)))
     (sym c.in-Some.is)
     (omega
     (arith, c.features.invariant.0, c.features-test.false, c.features.auto.i-end, c.len-i-end.ensures, fs.ok.0))
@@ -50,7 +51,8 @@ returns-clause-lists c =
     let self = c.args.self.now in
     let fs = c.in-Some.manifest.now.features in
     let IsMember = SomeStandsFor (index_in self.names.now) self.node self.found.now in
-    subst (λ (o : Option (Bor PackageDeclaration)). HasListsOf IsMember (features_in (option_copied o)) c.features.features.items)
+    subst (λ (o : Option (Bor PackageDeclaration)). HasListsOf IsMember (features_in (option_copied o))
+    c.features.features.items)
     (sym c.in-Some.is)
     (subst (λ (fs : List Feature). HasListsOf IsMember fs c.features.features.items)
     (take_all c.features.i fs.items (omega (arith, c.features-test.false, c.len-i-end.ensures, fs.ok.0)))

@@ -7,4 +7,5 @@ use Rattle.manifest_lints.proofs.checked_keys.CheckedKey.is_reported.Given as go
 -- the answer hangs on the hiders that are left
 abbrev pub invariant-hiders : goal.invariant-hiders
 invariant-hiders l =
-    list_any (applicable_codes l.self) (drop l.hider-index l.hider-items) ≡ list_any (applicable_codes l.self) (hiders l.fn.code)
+    list_any (applicable_codes l.self) (drop l.hider-index l.hider-items) ≡ list_any (applicable_codes l.self)
+    (hiders l.fn.code)
