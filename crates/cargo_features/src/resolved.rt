@@ -295,7 +295,7 @@ impl Resolved {
         let Some(dependency) = unit.dependencies.get(place) else {
             return TargetSet::none();
         };
-        if !self.build.kinds.follow(unit.is_root, dependency.kind) {
+        if !self.build.kinds.follows(unit.is_root, dependency.kind) {
             return TargetSet::none();
         }
         let target = self.using_along(index, Side::Target, place, dependency, to);

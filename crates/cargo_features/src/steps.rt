@@ -149,7 +149,7 @@ impl BuildOptions {
             ≡ steps.old.items ++ used_steps self unit.entry.packages.now unit.entry.at unit.entry.package.now place
             dependency.now) }
     {
-        let is_followed = self.kinds.follow(unit.package.is_root, dependency.kind);
+        let is_followed = self.kinds.follows(unit.package.is_root, dependency.kind);
         let used = Claim::Used(unit.at.index, unit.at.side);
         let resolved = Place {
             index: unit.at.index,

@@ -79,7 +79,7 @@ impl<'a> Graph<'a> {
         }
         match &self.features {
             Some(features) => features.resolution.used_on(index, side),
-            None => self.sets.on(index, side),
+            None => self.sets.on_side(index, side),
         }
     }
 
@@ -87,8 +87,8 @@ impl<'a> Graph<'a> {
     /// leave it out.
     pub fn targets_before_features(&self, index: usize) -> TargetSet {
         match self.side {
-            Some(side) => self.sets.on(index, side),
-            None => self.sets.at(index),
+            Some(side) => self.sets.on_side(index, side),
+            None => self.sets.on_any_side(index),
         }
     }
 
@@ -123,7 +123,7 @@ impl<'a> Graph<'a> {
             host: query.host,
         };
         match self.dependency(index, place) {
-            Some(dependency) => self.sets.following_to(followed, index, &dependency, side),
+            Some(dependency) => self.sets.followed_to(followed, index, &dependency, side),
             None => TargetSet::none(),
         }
     }

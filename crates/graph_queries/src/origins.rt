@@ -67,7 +67,7 @@ fn needed_for(
         Some(features) => features.resolution.using_from(index, place, side),
         None => {
             let holds = holds_from(side, dependency, host);
-            graph.sets.on(index, side).intersection(holds)
+            graph.sets.on_side(index, side).intersection(holds)
         }
     }
 }

@@ -25,7 +25,7 @@ returns c numbers k below =
     ∙ ap (λ (b : Bool). by Target || b) (c.using_along.ensures numbers k below) in (
       λ h.
           to_using r p c.args.place c.args.to k unit there d declared
-          (sym c.follow.ensures ∙ c.if-not-follow.false) (sym e ∙ h),
+          (sym c.follows.ensures ∙ c.if-not-follows.false) (sym e ∙ h),
       λ h.
           e ∙ from_using r p c.args.place c.args.to k unit there d declared h,
     )
