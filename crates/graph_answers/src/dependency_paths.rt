@@ -43,8 +43,12 @@ fn is_used(graph: &Graph<'_>, step: Step, target: KnownTarget) -> bool {
         return true;
     };
     let (from, dependency) = (step.from, step.dependency);
-    let on_target = features.resolution.using_to(from, dependency, Side::Target);
-    let on_host = features.resolution.using_to(from, dependency, Side::Host);
+    let on_target = features
+        .resolution
+        .dependency_targets_to(from, dependency, Side::Target);
+    let on_host = features
+        .resolution
+        .dependency_targets_to(from, dependency, Side::Host);
     on_target.union(on_host).contains(target)
 }
 

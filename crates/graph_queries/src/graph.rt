@@ -115,7 +115,9 @@ impl<'a> Graph<'a> {
             return TargetSet::none();
         }
         if let Some(features) = &self.features {
-            return features.resolution.using_to(index, place, side);
+            return features
+                .resolution
+                .dependency_targets_to(index, place, side);
         }
         let followed = PackageQuery {
             packages: &self.linked.packages,
@@ -182,7 +184,7 @@ impl<'a> Graph<'a> {
         let Some(features) = &self.features else {
             return Ok(names);
         };
-        let Some(manifest) = features.declarations.manifest(index) else {
+        let Some(manifest) = features.declarations.package_of(index) else {
             return Ok(names);
         };
         for i in 0..manifest.features.len() {
@@ -199,7 +201,9 @@ impl<'a> Graph<'a> {
     fn feature_on(&self, index: usize, side: Side, feature: usize) -> TargetSet {
         match &self.features {
             Some(features) if is_selected(self.side, side) => {
-                features.resolution.with_feature(index, side, feature)
+                features
+                    .resolution
+                    .targets_with_feature(index, side, feature)
             }
             _ => TargetSet::none(),
         }

@@ -102,7 +102,7 @@ fn has_feature(package: Option<&str>, manifest: &PackageDeclaration<'_>, name: &
 
 /// Returns whether the package of a node has a feature of this name.
 fn has(graph: &DeclaredGraph<'_, '_>, node: usize, package: Option<&str>, feature: &str) -> bool {
-    match graph.declared.manifest(node) {
+    match graph.declared.package_of(node) {
         Some(manifest) => has_feature(package, manifest, feature),
         None => false,
     }
