@@ -126,7 +126,7 @@ fn push_object(
         feature: on.name,
         side: side_word(on.side),
         targets: query.count_of(on.targets),
-        at: query.at(alloc, on.targets)?,
+        at: query.targets_for_json(alloc, on.targets)?,
     };
     json_lines::push_spaced_line(text, alloc, &line)
 }

@@ -179,7 +179,7 @@ fn push_object(
         side: side_word(built.side),
         features: &built.features,
         targets: query.count_of(built.targets),
-        at: query.at(alloc, built.targets)?,
+        at: query.targets_for_json(alloc, built.targets)?,
     };
     json_lines::push_spaced_line(text, alloc, &line)
 }

@@ -52,28 +52,30 @@ impl<'a> Graph<'a> {
         })
     }
 
-    /// Returns the targets of a query on which a package is in the build for some selected side.
-    pub fn at(&self, index: usize, query: &GraphQuery<'_>) -> TargetSet {
+    /// Returns the targets of a query on which a package is in the build for some selected side. These are the ones of
+    /// `targets_of` that the query selects.
+    pub fn targets_in(&self, index: usize, query: &GraphQuery<'_>) -> TargetSet {
         self.built(index, query).targets()
     }
 
-    /// Returns the targets on which a package is in the build for some selected side.
-    pub fn present(&self, index: usize) -> TargetSet {
-        let target = self.present_on(index, Side::Target);
-        target.union(self.present_on(index, Side::Host))
+    /// Returns the targets on which a package is in the build for some selected side, also those that a query does not
+    /// select.
+    pub fn targets_of(&self, index: usize) -> TargetSet {
+        let target = self.targets_on_side(index, Side::Target);
+        target.union(self.targets_on_side(index, Side::Host))
     }
 
     /// Returns, for each selected side, the targets of a query on which a package is in the build for that side.
     pub fn built(&self, index: usize, query: &GraphQuery<'_>) -> BySide {
         let built = BySide {
-            target: self.present_on(index, Side::Target),
-            host: self.present_on(index, Side::Host),
+            target: self.targets_on_side(index, Side::Target),
+            host: self.targets_on_side(index, Side::Host),
         };
         built.within(query.targets)
     }
 
     /// Returns the targets on which a package is in the build for this side. There are none if it is not selected.
-    fn present_on(&self, index: usize, side: Side) -> TargetSet {
+    fn targets_on_side(&self, index: usize, side: Side) -> TargetSet {
         if !is_selected(self.side, side) {
             return TargetSet::none();
         }
@@ -96,15 +98,15 @@ impl<'a> Graph<'a> {
     /// is its index among the dependencies of the package.
     pub fn followed(&self, index: usize, place: usize, query: &GraphQuery<'_>) -> BySide {
         let followed = BySide {
-            target: self.following_to(index, place, Side::Target, query),
-            host: self.following_to(index, place, Side::Host, query),
+            target: self.followed_to(index, place, Side::Target, query),
+            host: self.followed_to(index, place, Side::Host, query),
         };
         followed.within(query.targets)
     }
 
     /// Returns the targets on which a dependency is followed to a package that is built for this side. There are none
     /// if it is not selected.
-    fn following_to(
+    fn followed_to(
         &self,
         index: usize,
         place: usize,

@@ -8,7 +8,7 @@ use key_answers::printing::format_name;
 use std::alloc::{AllocError, Global};
 
 /// Splits the requested features at commas and spaces.
-pub fn names_of<'a>(alloc: Global, features: &[&'a str]) -> Result<Vec<&'a str>, AllocError> {
+pub fn split_features<'a>(alloc: Global, features: &[&'a str]) -> Result<Vec<&'a str>, AllocError> {
     let mut names = Vec::new(alloc);
     for words in features {
         for name in words.split([',', ' ']) {

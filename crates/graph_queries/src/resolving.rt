@@ -4,7 +4,7 @@ use crate::incomplete::lacking_reason;
 use crate::origins::dependency_targets_from;
 use crate::query::{GraphQuery, Show};
 use crate::reading::{GraphDocument, Rejected};
-use crate::requested::{current_node, names_of, reject_unknown, split_by_root};
+use crate::requested::{current_node, reject_unknown, split_by_root, split_features};
 use cargo_features::{BuildOptions, Claim, Resolved, resolve};
 use cargo_metadata::fields::text_at;
 use declared_features::{Declarations, RequestedFeatures, ResolverInput, resolver_input};
@@ -192,7 +192,7 @@ fn resolved_of<'a>(
     features: &RequestedFeatures<'a>,
     build: BuildOptions,
 ) -> Result<Resolution, Rejected> {
-    let graph = input.declaring(alloc)?;
+    let graph = input.with_declarations(alloc)?;
     reject_unknown(alloc, &graph, features)?;
     let ResolverInput { packages, edges } = resolver_input(alloc, &graph, features)?;
     let resolved = resolve(alloc, packages, build)?;
@@ -218,7 +218,7 @@ pub fn resolution_of<'a>(
         return Ok(None);
     }
     let host = host_of(alloc, query)?;
-    let graph = input.declaring(alloc)?;
+    let graph = input.with_declarations(alloc)?;
     let root = root_package(input.document);
     let resolver = resolver_of(alloc, query.requested.resolver, root)?;
     let current = if resolver == Resolver::One && root.is_some() {
@@ -226,7 +226,7 @@ pub fn resolution_of<'a>(
     } else {
         None
     };
-    let names = names_of(alloc, query.requested.features)?;
+    let names = split_features(alloc, query.requested.features)?;
     let (names, of_others) = split_by_root(alloc, names, current, &graph)?;
     let features = RequestedFeatures {
         names: &names,
