@@ -43,7 +43,7 @@ fn host_of(name: &str) -> Result<Option<KnownTarget>, &str>
 /// reason in the buffer, and `UNKNOWN_TARGET` if no known target has the host's name. With `NOT_UTF8`, `argument` is
 /// the index of the text that is not UTF-8. Returns `TOO_DEEP` if a condition has more than `MAX_OPEN` parentheses
 /// open at once.
-pub fn graph(alloc: Global, document: &[u8], host: &[u8], out: &mut [u8]) -> Outcome
+pub fn package_lines(alloc: Global, document: &[u8], host: &[u8], out: &mut [u8]) -> Outcome
     // With `DONE`, the document is a graph, and no condition is too deep.
     ensures done { result.code ≡ DONE → IsGraph document.now }
     // With `REFUSED`, the document is not JSON, or forms no graph, for a reason other than a lack of memory.

@@ -17,7 +17,7 @@ use Rattle.cargo_features.specs.Deriving.{given, follows}
 use Rattle.cargo_features.proofs.Following.{held_through}
 use Rattle.cargo_features.specs.Claims.{holds_at}
 use Rattle.cargo_features.specs.Destinations.{destination, is_counted, counts_kind, begins_on}
-use Rattle.cargo_features.specs.Steps.{one, both, when, at_each, to_feature, gate, is_first_side, root_steps}
+use Rattle.cargo_features.specs.Steps.{one, both, when, at_each, to_feature, required_claim, is_first_side, root_steps}
 use Rattle.cargo_features.specs.Steps.{active_steps}
 use Rattle.cargo_features.specs.Steps.{used_steps, dependency_steps, strong_at, weak_at, named_steps, member_steps}
 use Rattle.cargo_features.specs.Steps.{feature_steps, all_features, steps_of, steps_on_both, all_steps, turns_on}
@@ -30,7 +30,7 @@ use Rattle.cargo_features.specs.declared.claims.Claim.{Claim}
 use Rattle.cargo_features.specs.declared.claims.Claim.TheVariants as claim
 use Rattle.cargo_features.specs.declared.claims.StepTargets.{StepTargets}
 use Rattle.cargo_features.specs.declared.claims.StepTargets.TheVariants.{Always}
-use Rattle.cargo_features.specs.declared.claims.Place.{Place}
+use Rattle.cargo_features.specs.declared.claims.PackageOnSide.{PackageOnSide}
 use Rattle.cargo_features.specs.declared.claims.Step.{Step}
 use Rattle.cargo_features.specs.declared.packages.Dependency.{Dependency}
 use Rattle.cargo_features.specs.declared.packages.FeatureValue.{FeatureValue}
@@ -133,7 +133,7 @@ module _ (followed : Kinds) (host : KnownTarget) (packages : List Package) (k : 
         holds = holds;
       })
 
-  matched_features : (b c : Bool) (first z : Claim) (on : Place) (c1 c2 : StepTargets) (fs : List ℕ) (y : Step)
+  matched_features : (b c : Bool) (first z : Claim) (on : PackageOnSide) (c1 c2 : StepTargets) (fs : List ℕ) (y : Step)
       → (b ≡ true → c ≡ true) → z ≡ joined first
       → (holds_at host k c1 ≡ true → holds_at host k c2 ≡ true)
       → Contains (flat_map (to_feature b first on c1) fs) y
@@ -155,10 +155,10 @@ module _ (followed : Kinds) (host : KnownTarget) (packages : List Package) (k : 
       }
 
   module _ (p : ℕ) (s : Side) (unit : Package) where
-    abbrev At : Place
+    abbrev At : PackageOnSide
     At = record { index = p; side = s }
 
-    abbrev There : Place
+    abbrev There : PackageOnSide
     There = record { index = p; side = Target }
 
     abbrev Here : Step → Type 0
@@ -174,7 +174,7 @@ module _ (followed : Kinds) (host : KnownTarget) (packages : List Package) (k : 
 
     from_root : (t : Side) (y : Step) → Matches (root_steps One (record { index = p; side = t }) unit) y → Here y
     from_root t y m =
-        let at : Place = record { index = p; side = t } in
+        let at : PackageOnSide = record { index = p; side = t } in
         on_place t y (in_left (root_steps One at unit ++ dependency_steps One packages at unit)
         (all_features One packages at unit) y
         (in_left (root_steps One at unit) (dependency_steps One packages at unit) y m))
@@ -182,7 +182,7 @@ module _ (followed : Kinds) (host : KnownTarget) (packages : List Package) (k : 
     from_dependencies : (t : Side) (y : Step)
         → Matches (dependency_steps One packages (record { index = p; side = t }) unit) y → Here y
     from_dependencies t y m =
-        let at : Place = record { index = p; side = t } in
+        let at : PackageOnSide = record { index = p; side = t } in
         on_place t y (in_left (root_steps One at unit ++ dependency_steps One packages at unit)
         (all_features One packages at unit) y
         (in_right (root_steps One at unit) (dependency_steps One packages at unit) y m))
@@ -225,8 +225,8 @@ module _ (followed : Kinds) (host : KnownTarget) (packages : List Package) (k : 
     active_matched : (i : ℕ) (d : Dependency) (y : Step) → Contains (active_steps Two packages At unit i d) y
         → Matches (active_steps One packages There unit i d) y
     active_matched i d y is =
-        let from = gate At i d (claim.Active p s) in
-        let from_1 = gate There i d (claim.Active p Target) in
+        let from = required_claim At i d (claim.Active p s) in
+        let from_1 = required_claim There i d (claim.Active p Target) in
         let same : from_1 ≡ joined from = sym (gate_joined d.is_optional p i s (claim.Active p s)) in
         let led = led_to Two packages At d in
         let led_if = led_where Two packages At d in
@@ -250,8 +250,9 @@ module _ (followed : Kinds) (host : KnownTarget) (packages : List Package) (k : 
     used_matched i d y is =
         let w = destination packages s d in
         let is_on = is_followed followed unit.is_root d.kind in
-        let it = both (claim.Used p s) (gate At i d (claim.Used p s)) (claim.Used d.to w.side) w.condition in
-        let it_1 = both (claim.Used p s) (gate There i d (claim.Used p s)) (claim.Used d.to w.side) w.condition in
+        let it = both (claim.Used p s) (required_claim At i d (claim.Used p s)) (claim.Used d.to w.side) w.condition in
+        let it_1 = both (claim.Used p s) (required_claim There i d (claim.Used p s)) (claim.Used d.to w.side)
+        w.condition in
         matched is_on is_on it it_1 y is (λ x. x) refl (sym (gate_joined d.is_optional p i s (claim.Used p s))) refl
         (λ x. x)
 
@@ -329,8 +330,8 @@ module _ (followed : Kinds) (host : KnownTarget) (packages : List Package) (k : 
         let led = led_to Two packages At d in
         let led_if = led_where Two packages At d in
         matched (is_counted Two unit d) (is_counted One unit d)
-        (both from (gate At i d from) (claim.Feature led.index led.side g) led_if)
-        (both from_1 (gate There i d from_1) (claim.Feature d.to Target g) Always) y is (counted_too d) refl
+        (both from (required_claim At i d from) (claim.Feature led.index led.side g) led_if)
+        (both from_1 (required_claim There i d from_1) (claim.Feature d.to Target g) Always) y is (counted_too d) refl
         (sym (gate_joined d.is_optional p i s from)) refl (λ x. refl)
 
     member_matched : (f : ℕ) (m : FeatureValue) (y : Step)

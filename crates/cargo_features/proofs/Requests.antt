@@ -15,7 +15,7 @@ use Rattle.cargo_features.specs.Deriving.{given, follows}
 use Rattle.cargo_features.proofs.Following.{held_through}
 use Rattle.cargo_features.specs.Requests.{asking, AsksMore, AskMore}
 use Rattle.cargo_features.specs.Destinations.{condition, destination, is_macro, feature_side, is_counted, begins_on}
-use Rattle.cargo_features.specs.Steps.{one, both, when, at_each, to_feature, gate, is_first_side, root_steps}
+use Rattle.cargo_features.specs.Steps.{one, both, when, at_each, to_feature, required_claim, is_first_side, root_steps}
 use Rattle.cargo_features.specs.Steps.{active_steps, used_steps, dependency_steps, strong_at, weak_at, named_steps}
 use Rattle.cargo_features.specs.Steps.{member_steps, feature_steps, all_features, steps_of, steps_on_both, all_steps}
 use Rattle.cargo_features.specs.Steps.{turns_on}
@@ -26,7 +26,7 @@ use Rattle.cargo_features.specs.declared.claims.Claim.{Claim}
 use Rattle.cargo_features.specs.declared.claims.Claim.TheVariants as claim
 use Rattle.cargo_features.specs.declared.claims.StepTargets.{StepTargets}
 use Rattle.cargo_features.specs.declared.claims.StepTargets.TheVariants.{Always}
-use Rattle.cargo_features.specs.declared.claims.Place.{Place}
+use Rattle.cargo_features.specs.declared.claims.PackageOnSide.{PackageOnSide}
 use Rattle.cargo_features.specs.declared.claims.Step.{Step}
 use Rattle.cargo_features.specs.declared.packages.Dependency.{Dependency}
 use Rattle.cargo_features.specs.declared.packages.FeatureValue.{FeatureValue}
@@ -82,13 +82,13 @@ module _ (build : BuildOptions) (packages others : List Package) (more : AskMore
       subst (λ (ns : List ℕ). nat_lt d (slice_index_or ns p 0) ≡ true)
       (mapped (λ (u : Package). length u.dependencies.items) (λ u requested. refl) packages others more) h
 
-  module _ (at : Place) (unit : Package) where
+  module _ (at : PackageOnSide) (unit : Package) where
     -- the steps by the destination of a dependency
     abbrev active_by : ℕ → Dependency → Destination → List Step
     active_by i d w =
         let c = cond build.by_target w.condition Always in
-        let on : Place = record { index = d.to; side = feature_side build w.side } in
-        let from = gate at i d (claim.Active at.index at.side) in
+        let on : PackageOnSide = record { index = d.to; side = feature_side build w.side } in
+        let from = required_claim at i d (claim.Active at.index at.side) in
         when (is_counted build unit d) (one from (claim.Active on.index on.side) c)
         ++ flat_map (to_feature (is_counted build unit d) from on c) d.features.items
 
@@ -100,7 +100,8 @@ module _ (build : BuildOptions) (packages others : List Package) (more : AskMore
     used_by i d w =
         when (is_followed build.kinds unit.is_root d.kind)
         (both (claim.Used at.index at.side)
-        (gate (record { index = at.index; side = feature_side build at.side }) i d (claim.Used at.index at.side))
+        (required_claim (record { index = at.index; side = feature_side build at.side }) i d
+        (claim.Used at.index at.side))
         (claim.Used d.to w.side) w.condition)
 
     used_same : (i : ℕ) (d : Dependency)
@@ -110,7 +111,7 @@ module _ (build : BuildOptions) (packages others : List Package) (more : AskMore
     abbrev strong_by : Claim → ℕ → ℕ → Dependency → Destination → List Step
     strong_by from i g d w =
         let c = cond build.by_target w.condition Always in
-        let on : Place = record { index = d.to; side = feature_side build w.side } in
+        let on : PackageOnSide = record { index = d.to; side = feature_side build w.side } in
         to_feature (is_counted build unit d) from on c g
         ++ when (turns_on build unit d) (one from (claim.Dependency at.index at.side i) c)
         ++ named_steps (turns_on build unit d) at from c d.named
@@ -123,7 +124,7 @@ module _ (build : BuildOptions) (packages others : List Package) (more : AskMore
     abbrev weak_by : Claim → ℕ → ℕ → Dependency → Destination → List Step
     weak_by from i g d w =
         when (is_counted build unit d)
-        (both from (gate at i d from) (claim.Feature d.to (feature_side build w.side) g)
+        (both from (required_claim at i d from) (claim.Feature d.to (feature_side build w.side) g)
         (cond build.by_target w.condition Always))
 
     weak_same : (from : Claim) (i g : ℕ) (o : Option Dependency)
@@ -215,8 +216,8 @@ module _ (build : BuildOptions) (packages others : List Package) (more : AskMore
       → Contains (steps_on_both build packages p unit) y → Contains (steps_on_both build others p other) y
   unit_more p unit other m y h =
       let there = asking unit other.requested in
-      let on : Place = record { index = p; side = Target } in
-      let off : Place = record { index = p; side = Host } in
+      let on : PackageOnSide = record { index = p; side = Target } in
+      let off : PackageOnSide = record { index = p; side = Host } in
       subst (λ (u : Package). Contains (steps_on_both build others p u) y) (sym m.same)
       (in_both (steps_of build packages on unit) (steps_of build packages off unit)
       (steps_of build others on there) (steps_of build others off there) y

@@ -19,7 +19,7 @@ use Rattle.package_graphs.specs.declared.sides.Side.TheVariants.{Target, Host}
 use Rattle.cargo_features.proofs.Following.{held_through}
 use Rattle.cargo_features.specs.Claims.{holds_at}
 use Rattle.cargo_features.specs.Destinations.{condition, destination, is_macro, is_counted}
-use Rattle.cargo_features.specs.Steps.{one, both, when, at_each, to_feature, gate, is_first_side, root_steps}
+use Rattle.cargo_features.specs.Steps.{one, both, when, at_each, to_feature, required_claim, is_first_side, root_steps}
 use Rattle.cargo_features.specs.Steps.{active_steps}
 use Rattle.cargo_features.specs.Steps.{used_steps, dependency_steps, strong_at, weak_at, named_steps, member_steps}
 use Rattle.cargo_features.specs.Steps.{feature_steps, all_features, steps_of, steps_on_both, all_steps, turns_on}
@@ -31,7 +31,7 @@ use Rattle.cargo_features.specs.declared.build.BuildOptions.{BuildOptions}
 use Rattle.cargo_features.specs.declared.claims.Claim.{Claim}
 use Rattle.cargo_features.specs.declared.claims.Claim.TheVariants as claim
 use Rattle.cargo_features.specs.declared.claims.StepTargets.{StepTargets}
-use Rattle.cargo_features.specs.declared.claims.Place.{Place}
+use Rattle.cargo_features.specs.declared.claims.PackageOnSide.{PackageOnSide}
 use Rattle.cargo_features.specs.declared.claims.Step.{Step}
 use Rattle.cargo_features.specs.declared.packages.Dependency.{Dependency}
 use Rattle.cargo_features.specs.declared.packages.FeatureValue.{FeatureValue}
@@ -96,18 +96,18 @@ module _ (build : BuildOptions) (packages : List Package) (graph : List units.Pa
       → Contains (xs ++ ys) y → Keeps y
   of_either xs ys y f g is = elim (Contains-append_cases xs ys y is) as (λ _. Keeps y) [ inl a ↦ f a | inr b ↦ g b ]
 
-  of_feature : (b : Bool) (first : Claim) (on : Place) (c : StepTargets) (f : ℕ) (y : Step)
+  of_feature : (b : Bool) (first : Claim) (on : PackageOnSide) (c : StepTargets) (f : ℕ) (y : Step)
       → Contains (to_feature b first on c f) y → Keeps y
   of_feature b first on c f y =
       of_when b (one first (claim.Feature on.index on.side f) c) y (λ _ h a b. tt)
 
-  of_features : (b : Bool) (first : Claim) (on : Place) (c : StepTargets) (fs : List ℕ) (y : Step)
+  of_features : (b : Bool) (first : Claim) (on : PackageOnSide) (c : StepTargets) (fs : List ℕ) (y : Step)
       → Contains (flat_map (to_feature b first on c) fs) y → Keeps y
   of_features b first on c fs y is =
       let from = contains_flat_map (to_feature b first on c) fs y is in
       of_feature b first on c from.0 y from.2
 
-  of_root : (at : Place) (unit : Package) → IsUnit graph at.index unit → (y : Step)
+  of_root : (at : PackageOnSide) (unit : Package) → IsUnit graph at.index unit → (y : Step)
       → Contains (root_steps build at unit) y → Keeps y
   of_root at unit is y =
       of_either _ _ y
@@ -119,7 +119,7 @@ module _ (build : BuildOptions) (packages : List Package) (graph : List units.Pa
         on = f.1 ∙ ap (λ (m : Bool). graphs.side m) (sym is.macro);
       })))
 
-  of_used : (at : Place) (unit : Package) → IsUnit graph at.index unit → (i : ℕ) (d : Dependency)
+  of_used : (at : PackageOnSide) (unit : Package) → IsUnit graph at.index unit → (i : ℕ) (d : Dependency)
       → HasEdge graph at.index d → (y : Step) → Contains (used_steps build packages at unit i d) y → Keeps y
   of_used at unit is i d has y =
       of_when (is_followed build.kinds unit.is_root d.kind) _ y (λ followed h here b.
@@ -144,12 +144,12 @@ module _ (build : BuildOptions) (packages : List Package) (graph : List units.Pa
             ∙ ap (λ (x : Bool). graphs.side (graphs.is_of_host at.side has.edge.kind || x)) (sym (over.macros d.to));
       }))
 
-  of_active : (at : Place) (unit : Package) (i : ℕ) (d : Dependency) (y : Step)
+  of_active : (at : PackageOnSide) (unit : Package) (i : ℕ) (d : Dependency) (y : Step)
       → Contains (active_steps build packages at unit i d) y → Keeps y
   of_active at unit i d y =
       of_either _ _ y (of_when _ _ y (λ _ h a b. tt)) (of_features _ _ _ _ d.features.items y)
 
-  of_dependencies : (at : Place) (unit : Package) → IsUnit graph at.index unit → (y : Step)
+  of_dependencies : (at : PackageOnSide) (unit : Package) → IsUnit graph at.index unit → (y : Step)
       → Contains (dependency_steps build packages at unit) y → Keeps y
   of_dependencies at unit is y h =
       let f = λ (i : ℕ) (d : Dependency).
@@ -161,12 +161,12 @@ module _ (build : BuildOptions) (packages : List Package) (graph : List units.Pa
       of_either (active_steps build packages at unit (0 + r.0) d) (used_steps build packages at unit (0 + r.0) d) y
       (of_active at unit (0 + r.0) d y) (of_used at unit is (0 + r.0) d has y) r.4
 
-  of_named : (b : Bool) (at : Place) (from : Claim) (c : StepTargets) (named : Option ℕ) (y : Step)
+  of_named : (b : Bool) (at : PackageOnSide) (from : Claim) (c : StepTargets) (named : Option ℕ) (y : Step)
       → Contains (named_steps b at from c named) y → Keeps y
   of_named b at from c None y (j, below, is) = absurd (omega (arith, below))
   of_named b at from c (Some f) y h = of_feature b from at c f y h
 
-  of_strong : (at : Place) (unit : Package) (from : Claim) (i g : ℕ) (o : Option Dependency) (y : Step)
+  of_strong : (at : PackageOnSide) (unit : Package) (from : Claim) (i g : ℕ) (o : Option Dependency) (y : Step)
       → Contains (strong_at build packages at unit from i g o) y → Keeps y
   of_strong at unit from i g None y (j, below, is) = absurd (omega (arith, below))
   of_strong at unit from i g (Some d) y h =
@@ -181,12 +181,12 @@ module _ (build : BuildOptions) (packages : List Package) (graph : List units.Pa
       (of_when on turned y (λ _ h a b. tt)))
       (of_named on at from where_led d.named y) h
 
-  of_weak : (at : Place) (unit : Package) (from : Claim) (i g : ℕ) (o : Option Dependency) (y : Step)
+  of_weak : (at : PackageOnSide) (unit : Package) (from : Claim) (i g : ℕ) (o : Option Dependency) (y : Step)
       → Contains (weak_at build packages at unit from i g o) y → Keeps y
   of_weak at unit from i g None y (j, below, is) = absurd (omega (arith, below))
   of_weak at unit from i g (Some d) y h = of_when _ _ y (λ _ h a b. tt) h
 
-  of_member : (at : Place) (unit : Package) (from : Claim) (m : FeatureValue) (y : Step)
+  of_member : (at : PackageOnSide) (unit : Package) (from : Claim) (m : FeatureValue) (y : Step)
       → Contains (member_steps build packages at unit from m) y → Keeps y
   of_member at unit from (listed.Feature f) y h = of_when true _ y (λ _ h a b. tt) h
   of_member at unit from (listed.Dependency i) y h = of_when true _ y (λ _ h a b. tt) h
@@ -195,21 +195,21 @@ module _ (build : BuildOptions) (packages : List Package) (graph : List units.Pa
   of_member at unit from (listed.Weak i g) y h =
       of_weak at unit from i g (slice_get unit.dependencies.items i) y h
 
-  of_listed : (at : Place) (unit : Package) (f : ℕ) (members : List FeatureValue) (y : Step)
+  of_listed : (at : PackageOnSide) (unit : Package) (f : ℕ) (members : List FeatureValue) (y : Step)
       → Contains (feature_steps build packages at unit f members) y → Keeps y
   of_listed at unit f members y h =
       let from = claim.Feature at.index at.side f in
       let r = contains_flat_map (member_steps build packages at unit from) members y h in
       of_member at unit from r.0 y r.2
 
-  of_all_features : (at : Place) (unit : Package) (y : Step)
+  of_all_features : (at : PackageOnSide) (unit : Package) (y : Step)
       → Contains (all_features build packages at unit) y → Keeps y
   of_all_features at unit y h =
       let f = λ (i : ℕ) (members : Vec FeatureValue Global). feature_steps build packages at unit i members.items in
       let r = in_each 0 f unit.features.items y h in
       of_listed at unit (0 + r.0) r.1.items y r.4
 
-  of_place : (at : Place) (unit : Package) → IsUnit graph at.index unit → (y : Step)
+  of_place : (at : PackageOnSide) (unit : Package) → IsUnit graph at.index unit → (y : Step)
       → Contains (steps_of build packages at unit) y → Keeps y
   of_place at unit is y =
       of_either _ _ y

@@ -3,7 +3,7 @@ use Rattle.std.specs.Prelude.{◌≡◌, ◌&&◌, ℕ, Bool, IsTrue, List, Some
 use Rattle.package_graphs.specs.Kinds.{is_followed}
 use Rattle.package_graphs.specs.declared.sides.Side.{Side}
 use Rattle.cargo_features.specs.Claims.{holds_at}
-use Rattle.cargo_features.specs.Steps.{gate}
+use Rattle.cargo_features.specs.Steps.{required_claim}
 use Rattle.cargo_features.specs.Destinations.{destination, feature_side}
 use Rattle.cargo_features.specs.Inside.Numbered.{AreNumbers}
 use Rattle.cargo_features.specs.Inside.Exact.{has}
@@ -36,7 +36,7 @@ abbrev pub is_using : Resolved → ℕ → Side → ℕ → Dependency → ℕ �
 is_using resolved p from i d k =
     holds_in resolved (claim.Used p from) k
     && (holds_in resolved
-    (gate (record { index = p; side = feature_side resolved.build from }) i d (claim.Used p from)) k
+    (required_claim (record { index = p; side = feature_side resolved.build from }) i d (claim.Used p from)) k
     && holds_at resolved.build.host k (destination resolved.packages.items from d).condition)
 
 -- by the result, the package p uses its dependency at the index i, and that leads to a package built for the side `to`

@@ -13,7 +13,7 @@ use Rattle.cargo_features.specs.declared.claims.Claim.{Claim}
 use Rattle.cargo_features.specs.declared.claims.Claim.TheVariants as claim
 use Rattle.cargo_features.specs.declared.claims.StepTargets.{StepTargets}
 use Rattle.cargo_features.specs.declared.claims.StepTargets.TheVariants.{Always}
-use Rattle.cargo_features.specs.declared.claims.Place.{Place}
+use Rattle.cargo_features.specs.declared.claims.PackageOnSide.{PackageOnSide}
 use Rattle.cargo_features.specs.declared.claims.Step.{Step}
 use Rattle.cargo_features.specs.declared.packages.Dependency.{Dependency}
 use Rattle.cargo_features.specs.declared.packages.FeatureValue.{FeatureValue}
@@ -37,11 +37,11 @@ at_each k f [] = []
 at_each k f (x ∷ xs) = f k x ++ at_each (k + 1) f xs
 
 -- an optional dependency is followed if it is on, and another one wherever what follows it is
-abbrev pub gate : Place → ℕ → Dependency → Claim → Claim
-gate at i d otherwise = cond d.is_optional (claim.Dependency at.index at.side i) otherwise
+abbrev pub required_claim : PackageOnSide → ℕ → Dependency → Claim → Claim
+required_claim at i d otherwise = cond d.is_optional (claim.Dependency at.index at.side i) otherwise
 
 -- to a feature of a package
-abbrev pub to_feature : Bool → Claim → Place → StepTargets → ℕ → List Step
+abbrev pub to_feature : Bool → Claim → PackageOnSide → StepTargets → ℕ → List Step
 to_feature is_there first on condition f =
     when is_there (one first (claim.Feature on.index on.side f) condition)
 
@@ -52,7 +52,7 @@ is_first_side Target unit = unit.is_root && not unit.is_macro
 is_first_side Host unit = unit.is_root && unit.is_macro
 
 -- it is active, with the features that are requested of it, and it is used
-abbrev pub root_steps : BuildOptions → Place → Package → List Step
+abbrev pub root_steps : BuildOptions → PackageOnSide → Package → List Step
 root_steps build at unit =
     when (begins_on build at.side unit) (one claim.Requested (claim.Active at.index at.side) Always)
     ++ flat_map (to_feature (begins_on build at.side unit) claim.Requested at Always) unit.requested.items
@@ -61,32 +61,32 @@ root_steps build at unit =
 -- ---- a dependency
 
 -- where it leads for the feature resolver
-abbrev pub led_to : BuildOptions → List Package → Place → Dependency → Place
+abbrev pub led_to : BuildOptions → List Package → PackageOnSide → Dependency → PackageOnSide
 led_to build packages at d = record { index = d.to; side = (feature_destination build packages at.side d).side }
 
-abbrev pub led_where : BuildOptions → List Package → Place → Dependency → StepTargets
+abbrev pub led_where : BuildOptions → List Package → PackageOnSide → Dependency → StepTargets
 led_where build packages at d = (feature_destination build packages at.side d).condition
 
 -- it makes its package active, with the features that it requests
-abbrev pub active_steps : BuildOptions → List Package → Place → Package → ℕ → Dependency → List Step
+abbrev pub active_steps : BuildOptions → List Package → PackageOnSide → Package → ℕ → Dependency → List Step
 active_steps build packages at unit i d =
     when (is_counted build unit d)
-    (one (gate at i d (claim.Active at.index at.side))
+    (one (required_claim at i d (claim.Active at.index at.side))
     (claim.Active (led_to build packages at d).index (led_to build packages at d).side)
     (led_where build packages at d))
-    ++ flat_map (to_feature (is_counted build unit d) (gate at i d (claim.Active at.index at.side))
+    ++ flat_map (to_feature (is_counted build unit d) (required_claim at i d (claim.Active at.index at.side))
     (led_to build packages at d) (led_where build packages at d)) d.features.items
 
 -- its package is used; whether the dependency is on is decided on the side of the features
-abbrev pub used_steps : BuildOptions → List Package → Place → Package → ℕ → Dependency → List Step
+abbrev pub used_steps : BuildOptions → List Package → PackageOnSide → Package → ℕ → Dependency → List Step
 used_steps build packages at unit i d =
     when (is_followed build.kinds unit.is_root d.kind)
     (both (claim.Used at.index at.side)
-    (gate (record { index = at.index; side = feature_side build at.side }) i d (claim.Used at.index at.side))
+    (required_claim (record { index = at.index; side = feature_side build at.side }) i d (claim.Used at.index at.side))
     (claim.Used d.to (destination packages at.side d).side)
     (destination packages at.side d).condition)
 
-abbrev pub dependency_steps : BuildOptions → List Package → Place → Package → List Step
+abbrev pub dependency_steps : BuildOptions → List Package → PackageOnSide → Package → List Step
 dependency_steps build packages at unit =
     at_each 0 (λ i d. active_steps build packages at unit i d ++ used_steps build packages at unit i d)
     unit.dependencies.items
@@ -98,12 +98,13 @@ abbrev pub turns_on : BuildOptions → Package → Dependency → Bool
 turns_on build unit d = is_counted build unit d && d.is_optional
 
 -- the feature of the dependency's name, if there is one
-abbrev pub named_steps : Bool → Place → Claim → StepTargets → Option ℕ → List Step
+abbrev pub named_steps : Bool → PackageOnSide → Claim → StepTargets → Option ℕ → List Step
 named_steps is_on at from condition None = []
 named_steps is_on at from condition (Some f) = to_feature is_on from at condition f
 
 -- `d/g`: the feature g of the package of d and, if d is optional, d itself and the feature of its name
-abbrev pub strong_at : BuildOptions → List Package → Place → Package → Claim → ℕ → ℕ → Option Dependency → List Step
+abbrev pub strong_at : BuildOptions → List Package → PackageOnSide → Package → Claim → ℕ → ℕ → Option Dependency
+    → List Step
 strong_at build packages at unit from i g None = []
 strong_at build packages at unit from i g (Some d) =
     to_feature (is_counted build unit d) from (led_to build packages at d) (led_where build packages at d) g
@@ -111,25 +112,26 @@ strong_at build packages at unit from i g (Some d) =
     (one from (claim.Dependency at.index at.side i) (led_where build packages at d))
     ++ named_steps (turns_on build unit d) at from (led_where build packages at d) d.named
 
-abbrev pub strong_steps : BuildOptions → List Package → Place → Package → Claim → ℕ → ℕ → List Step
+abbrev pub strong_steps : BuildOptions → List Package → PackageOnSide → Package → Claim → ℕ → ℕ → List Step
 strong_steps build packages at unit from i g =
     strong_at build packages at unit from i g (slice_get unit.dependencies.items i)
 
 -- `d?/g`: the feature g of the package of d, which has to be on if it is optional
-abbrev pub weak_at : BuildOptions → List Package → Place → Package → Claim → ℕ → ℕ → Option Dependency → List Step
+abbrev pub weak_at : BuildOptions → List Package → PackageOnSide → Package → Claim → ℕ → ℕ → Option Dependency
+    → List Step
 weak_at build packages at unit from i g None = []
 weak_at build packages at unit from i g (Some d) =
     when (is_counted build unit d)
-    (both from (gate at i d from)
+    (both from (required_claim at i d from)
     (claim.Feature (led_to build packages at d).index (led_to build packages at d).side g)
     (led_where build packages at d))
 
-abbrev pub weak_steps : BuildOptions → List Package → Place → Package → Claim → ℕ → ℕ → List Step
+abbrev pub weak_steps : BuildOptions → List Package → PackageOnSide → Package → Claim → ℕ → ℕ → List Step
 weak_steps build packages at unit from i g =
     weak_at build packages at unit from i g (slice_get unit.dependencies.items i)
 
 -- a feature, `dep:d`, `d/g`, or `d?/g`
-abbrev pub member_steps : BuildOptions → List Package → Place → Package → Claim → FeatureValue → List Step
+abbrev pub member_steps : BuildOptions → List Package → PackageOnSide → Package → Claim → FeatureValue → List Step
 member_steps build packages at unit from (listed.Feature f) =
     when true (one from (claim.Feature at.index at.side f) Always)
 member_steps build packages at unit from (listed.Dependency i) =
@@ -138,17 +140,17 @@ member_steps build packages at unit from (listed.Strong i g) = strong_steps buil
 member_steps build packages at unit from (listed.Weak i g) = weak_steps build packages at unit from i g
 
 -- a feature turns on what it lists
-abbrev pub feature_steps : BuildOptions → List Package → Place → Package → ℕ → List FeatureValue → List Step
+abbrev pub feature_steps : BuildOptions → List Package → PackageOnSide → Package → ℕ → List FeatureValue → List Step
 feature_steps build packages at unit f members =
     flat_map (member_steps build packages at unit (claim.Feature at.index at.side f)) members
 
-abbrev pub all_features : BuildOptions → List Package → Place → Package → List Step
+abbrev pub all_features : BuildOptions → List Package → PackageOnSide → Package → List Step
 all_features build packages at unit =
     at_each 0 (λ f members. feature_steps build packages at unit f members.items) unit.features.items
 
 -- ---- a package on a side, and all of them
 
-abbrev pub steps_of : BuildOptions → List Package → Place → Package → List Step
+abbrev pub steps_of : BuildOptions → List Package → PackageOnSide → Package → List Step
 steps_of build packages at unit =
     root_steps build at unit ++ dependency_steps build packages at unit ++ all_features build packages at unit
 

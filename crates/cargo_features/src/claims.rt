@@ -27,7 +27,7 @@ pub enum Claim {
 
 /// A package by its index, on a side.
 #[derive(Clone, Copy, Drop)]
-pub struct Place {
+pub struct PackageOnSide {
     pub index: usize,
     pub side: Side,
 }
@@ -93,7 +93,7 @@ impl StepTargets {
 }
 
 /// Appends a step if `is_there`.
-pub fn add(steps: &mut Vec<Step>, is_there: bool, step: Step) -> Result<(), AllocError>
+pub fn add_step_if(steps: &mut Vec<Step>, is_there: bool, step: Step) -> Result<(), AllocError>
     ensures { OnOk result (steps.new.items ≡ steps.old.items ++ when is_there step) }
 {
     if is_there {
@@ -106,7 +106,7 @@ pub fn add(steps: &mut Vec<Step>, is_there: bool, step: Step) -> Result<(), Allo
 pub fn add_features(
     steps: &mut Vec<Step>,
     origin: Origin,
-    on: Place,
+    on: PackageOnSide,
     features: &[usize],
 ) -> Result<(), AllocError>
     ensures { OnOk result (steps.new.items
@@ -114,7 +114,7 @@ pub fn add_features(
 {
     'features: for feature in features {
         let to = Claim::Feature(on.index, on.side, *feature);
-        add(
+        add_step_if(
             steps,
             origin.is_there,
             Step::from_one(origin.from, to, origin.condition),

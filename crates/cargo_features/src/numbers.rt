@@ -59,7 +59,8 @@ impl Numbers {
         self.count
     }
 
-    /// Returns the number of a claim, or the number of all claims if it is about no package, feature or dependency.
+    /// Returns the number of a claim. If it is about a package, feature or dependency that does not exist, returns
+    /// `count`, which is the number of no claim.
     pub fn of(&self, packages: &[Package], claim: Claim) -> usize
         ensures { AreNumbers packages.now self.now → result ≡ number packages.now claim }
     {
@@ -83,8 +84,7 @@ impl Numbers {
         }
     }
 
-    /// Returns the number of a package's fact at an index, on a side, or the number of all claims if there is no such
-    /// package.
+    /// Returns the number of a package's fact at an index, on a side, or `count` if there is no such package.
     fn at(&self, index: usize, side: Side, fact: usize) -> usize
         ensures there { index < length self.now.firsts.items
             → slice_index self.now.firsts.items index + node_of fact side < self.now.count

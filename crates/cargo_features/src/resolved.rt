@@ -15,7 +15,7 @@ ghost use Rattle.cargo_features.specs.declared.claims.Claim.{Claim};
 ghost use Rattle.cargo_features.specs.declared.claims.Step.{Step};
 
 use crate::build::BuildOptions;
-use crate::claims::{Claim, Place, Step};
+use crate::claims::{Claim, PackageOnSide, Step};
 use crate::derivation::derive_targets;
 use crate::numbers::Numbers;
 use crate::packages::{Dependency, Package};
@@ -26,7 +26,7 @@ use std::alloc::{AllocError, Global};
 
 /// The targets on which each claim holds, by the number of the claim.
 #[derive(Drop)]
-pub struct Numbered {
+pub struct TargetsByClaim {
     numbers: Numbers,
     sets: Vec<TargetSet>,
 }
@@ -91,16 +91,16 @@ fn steps_on_both(
     ensures { IfOk result (λ steps. steps.items ≡ steps_on_both build packages.now index unit.now) }
 {
     let mut steps = Vec::new(alloc);
-    let target = Place {
+    let target = PackageOnSide {
         index,
         side: Side::Target,
     };
-    build.steps_of(packages, target, unit, &mut steps)?;
-    let host = Place {
+    build.add_steps_of(packages, target, unit, &mut steps)?;
+    let host = PackageOnSide {
         index,
         side: Side::Host,
     };
-    build.steps_of(packages, host, unit, &mut steps)?;
+    build.add_steps_of(packages, host, unit, &mut steps)?;
     Ok(steps)
 }
 
@@ -109,7 +109,7 @@ fn exact_sets(
     alloc: Global,
     packages: &[Package],
     build: BuildOptions,
-) -> Result<Numbered, AllocError>
+) -> Result<TargetsByClaim, AllocError>
     ensures { IfOk result (λ found. IsExact build packages.now found) }
 {
     let numbers = Numbers::new(alloc, packages)?;
@@ -117,10 +117,10 @@ fn exact_sets(
     let mut given = vec![in alloc; TargetSet::none(); numbers.count()]?;
     given[0] = TargetSet::all();
     let sets = derive_targets(alloc, given, &rules)?;
-    Ok(Numbered { numbers, sets })
+    Ok(TargetsByClaim { numbers, sets })
 }
 
-impl Numbered {
+impl TargetsByClaim {
     /// Returns the targets on which a claim about the packages holds.
     fn at(&self, packages: &[Package], claim: Claim) -> TargetSet
         ensures { AreNumbers packages.now self.now.numbers
@@ -169,7 +169,7 @@ pub fn used_packages(
 pub struct Resolved {
     packages: Vec<Package>,
     build: BuildOptions,
-    found: Numbered,
+    found: TargetsByClaim,
 }
 
 /// Returns the targets on which each claim about the packages holds. Whatever names no package, feature or dependency
@@ -227,7 +227,7 @@ impl Resolved {
     }
 
     /// Returns the targets on which a package that is used on a side is built with one of its features.
-    pub fn with_feature(&self, index: usize, side: Side, feature: usize) -> TargetSet
+    pub fn targets_with_feature(&self, index: usize, side: Side, feature: usize) -> TargetSet
         // A target is in the set exactly if the package is used there on the side, and its feature is on.
         ensures { AreNumbers self.now.packages.items self.now.found.numbers → (k : ℕ) → k < COUNT
             → is_member result k ≡ is_built_with self.now index side feature k }
@@ -238,7 +238,7 @@ impl Resolved {
     }
 
     /// Returns the targets on which a package that is used on the side `from` uses one of its dependencies.
-    fn using_from(
+    fn dependency_targets_from(
         &self,
         index: usize,
         from: Side,
@@ -249,19 +249,19 @@ impl Resolved {
             → is_member result k ≡ is_using self.now index from place dependency.now k }
     {
         let used = Claim::Used(index, from);
-        let resolved = Place {
+        let resolved = PackageOnSide {
             index,
             side: self.build.feature_side(from),
         };
         let end = self.build.destination(&self.packages, from, dependency);
         let targets = end.condition.targets(self.build.host);
-        let on = self.at(resolved.gate(place, dependency, used));
+        let on = self.at(resolved.required_claim(place, dependency, used));
         self.at(used).intersection(on.intersection(targets))
     }
 
     /// Returns the same targets if the dependency leads to a package that is built for the side `to`, and otherwise
     /// none.
-    fn using_along(
+    fn dependency_targets_along(
         &self,
         index: usize,
         from: Side,
@@ -275,7 +275,7 @@ impl Resolved {
     {
         let end = self.build.destination(&self.packages, from, dependency);
         if end.side.is_same(to) {
-            self.using_from(index, from, place, dependency)
+            self.dependency_targets_from(index, from, place, dependency)
         } else {
             TargetSet::none()
         }
@@ -283,7 +283,7 @@ impl Resolved {
 
     /// Returns the targets on which the package at `index` uses its dependency at `place` that is built for the side
     /// `to`.
-    pub fn using_to(&self, index: usize, place: usize, to: Side) -> TargetSet
+    pub fn dependency_targets_to(&self, index: usize, place: usize, to: Side) -> TargetSet
         // A target is in the set exactly if the package is used there on a side, and from there the dependency is
         // followed, is on if it is optional, has a true condition, and leads to a package for the side `to`.
         ensures { AreNumbers self.now.packages.items self.now.found.numbers → (k : ℕ) → k < COUNT
@@ -295,20 +295,20 @@ impl Resolved {
         let Some(dependency) = unit.dependencies.get(place) else {
             return TargetSet::none();
         };
-        if !self.build.kinds.follow(unit.is_root, dependency.kind) {
+        if !self.build.kinds.follows(unit.is_root, dependency.kind) {
             return TargetSet::none();
         }
-        let target = self.using_along(index, Side::Target, place, dependency, to);
-        target.union(self.using_along(index, Side::Host, place, dependency, to))
+        let target = self.dependency_targets_along(index, Side::Target, place, dependency, to);
+        target.union(self.dependency_targets_along(index, Side::Host, place, dependency, to))
     }
 
     /// Returns the targets on which a package uses the dependency at an index, whichever side it leads to.
-    pub fn using(&self, index: usize, place: usize) -> TargetSet
+    pub fn dependency_targets(&self, index: usize, place: usize) -> TargetSet
         // A target is in the set exactly if the dependency is used there, and leads to one side or the other.
         ensures { AreNumbers self.now.packages.items self.now.found.numbers → (k : ℕ) → k < COUNT
             → IsTrue (is_member result k) ↔ IsUsingAny self.now index place k }
     {
-        let target = self.using_to(index, place, Side::Target);
-        target.union(self.using_to(index, place, Side::Host))
+        let target = self.dependency_targets_to(index, place, Side::Target);
+        target.union(self.dependency_targets_to(index, place, Side::Host))
     }
 }

@@ -2,12 +2,12 @@
 //! [features](https://doc.rust-lang.org/cargo/reference/features.html).
 
 ghost use Rattle.std.specs.Prelude.{◌≡◌, ◌++◌, OnOk, Some};
-ghost use Rattle.cargo_features.specs.Steps.{gate, is_first_side, root_steps, active_steps, used_steps, turns_on};
+ghost use Rattle.cargo_features.specs.Steps.{required_claim, is_first_side, root_steps, active_steps, used_steps};
 ghost use Rattle.cargo_features.specs.Steps.{strong_steps, weak_steps, member_steps, dependency_steps, feature_steps};
-ghost use Rattle.cargo_features.specs.Steps.{all_features, steps_of, strong_at, weak_at, named_steps};
+ghost use Rattle.cargo_features.specs.Steps.{turns_on, all_features, steps_of, strong_at, weak_at, named_steps};
 
 use crate::build::BuildOptions;
-use crate::claims::{Claim, Origin, Place, Step, StepTargets, add, add_features};
+use crate::claims::{Claim, Origin, PackageOnSide, Step, StepTargets, add_features, add_step_if};
 use crate::packages::{Dependency, FeatureValue, Package};
 use package_graphs::Side;
 use std::alloc::AllocError;
@@ -16,7 +16,7 @@ use std::alloc::AllocError;
 #[derive(Clone, Copy, Drop)]
 struct Unit<'a> {
     packages: &'a [Package],
-    at: Place,
+    at: PackageOnSide,
     package: &'a Package,
 }
 
@@ -31,11 +31,11 @@ struct FeatureEntry {
     feature: usize,
 }
 
-impl Place {
+impl PackageOnSide {
     /// Returns the claim that has to hold for a dependency to be followed, besides the claim that follows it: an
     /// optional dependency has to be on.
-    pub fn gate(self, place: usize, dependency: &Dependency, otherwise: Claim) -> Claim
-        ensures { result ≡ gate self place dependency.now otherwise }
+    pub fn required_claim(self, place: usize, dependency: &Dependency, otherwise: Claim) -> Claim
+        ensures { result ≡ required_claim self place dependency.now otherwise }
     {
         if dependency.is_optional {
             Claim::Dependency(self.index, self.side, place)
@@ -59,7 +59,7 @@ fn is_first_side(side: Side, unit: &Package) -> bool
 fn add_named(
     steps: &mut Vec<Step>,
     origin: Origin,
-    at: Place,
+    at: PackageOnSide,
     named: Option<usize>,
 ) -> Result<(), AllocError>
     ensures { OnOk result (steps.new.items
@@ -68,7 +68,7 @@ fn add_named(
     match named {
         Some(named) => {
             let own = Claim::Feature(at.index, at.side, named);
-            add(
+            add_step_if(
                 steps,
                 origin.is_there,
                 Step::from_one(origin.from, own, origin.condition),
@@ -80,12 +80,17 @@ fn add_named(
 
 impl BuildOptions {
     /// Appends the steps of a root: it is active, with the features that are requested of it, and it is used.
-    fn root(self, at: Place, unit: &Package, steps: &mut Vec<Step>) -> Result<(), AllocError>
+    fn root(
+        self,
+        at: PackageOnSide,
+        unit: &Package,
+        steps: &mut Vec<Step>,
+    ) -> Result<(), AllocError>
         ensures { OnOk result (steps.new.items ≡ steps.old.items ++ root_steps self at unit.now) }
     {
         let begins = self.begins_on(at.side, unit);
         let active = Claim::Active(at.index, at.side);
-        add(
+        add_step_if(
             steps,
             begins,
             Step::from_one(Claim::Requested, active, StepTargets::Always),
@@ -98,7 +103,7 @@ impl BuildOptions {
         add_features(steps, origin, at, &unit.requested)?;
         let used = Claim::Used(at.index, at.side);
         let step = Step::from_one(Claim::Requested, used, StepTargets::Always);
-        add(steps, is_first_side(at.side, unit), step)?;
+        add_step_if(steps, is_first_side(at.side, unit), step)?;
         Ok(())
     }
 
@@ -116,15 +121,15 @@ impl BuildOptions {
             dependency.now) }
     {
         let counts = self.considers(unit.package, dependency);
-        let from = unit.at.gate(
+        let from = unit.at.required_claim(
             place,
             dependency,
             Claim::Active(unit.at.index, unit.at.side),
         );
         let end = self.feature_destination(unit.packages, unit.at.side, dependency);
         let active = Claim::Active(dependency.to, end.side);
-        add(steps, counts, Step::from_one(from, active, end.condition))?;
-        let on = Place {
+        add_step_if(steps, counts, Step::from_one(from, active, end.condition))?;
+        let on = PackageOnSide {
             index: dependency.to,
             side: end.side,
         };
@@ -149,20 +154,20 @@ impl BuildOptions {
             ≡ steps.old.items ++ used_steps self unit.entry.packages.now unit.entry.at unit.entry.package.now place
             dependency.now) }
     {
-        let is_followed = self.kinds.follow(unit.package.is_root, dependency.kind);
+        let is_followed = self.kinds.follows(unit.package.is_root, dependency.kind);
         let used = Claim::Used(unit.at.index, unit.at.side);
-        let resolved = Place {
+        let resolved = PackageOnSide {
             index: unit.at.index,
             side: self.feature_side(unit.at.side),
         };
         let end = self.destination(unit.packages, unit.at.side, dependency);
         let step = Step {
             first: used,
-            second: resolved.gate(place, dependency, used),
+            second: resolved.required_claim(place, dependency, used),
             to: Claim::Used(dependency.to, end.side),
             condition: end.condition,
         };
-        add(steps, is_followed, step)
+        add_step_if(steps, is_followed, step)
     }
 
     /// Returns whether a dependency can be turned on.
@@ -188,7 +193,7 @@ impl BuildOptions {
         let counts = self.considers(unit.package, dependency);
         let end = self.feature_destination(unit.packages, unit.at.side, dependency);
         let theirs = Claim::Feature(dependency.to, end.side, entry.feature);
-        add(
+        add_step_if(
             steps,
             counts,
             Step::from_one(entry.from, theirs, end.condition),
@@ -200,7 +205,7 @@ impl BuildOptions {
             from: entry.from,
             condition: end.condition,
         };
-        add(
+        add_step_if(
             steps,
             turns_on,
             Step::from_one(entry.from, on, end.condition),
@@ -245,11 +250,11 @@ impl BuildOptions {
         let end = self.feature_destination(unit.packages, unit.at.side, dependency);
         let step = Step {
             first: entry.from,
-            second: unit.at.gate(entry.place, dependency, entry.from),
+            second: unit.at.required_claim(entry.place, dependency, entry.from),
             to: Claim::Feature(dependency.to, end.side, entry.feature),
             condition: end.condition,
         };
-        add(steps, counts, step)?;
+        add_step_if(steps, counts, step)?;
         Ok(())
     }
 
@@ -287,11 +292,11 @@ impl BuildOptions {
         match member {
             FeatureValue::Feature(feature) => {
                 let to = Claim::Feature(unit.at.index, unit.at.side, feature);
-                add(steps, true, Step::from_one(from, to, StepTargets::Always))
+                add_step_if(steps, true, Step::from_one(from, to, StepTargets::Always))
             }
             FeatureValue::Dependency(place) => {
                 let to = Claim::Dependency(unit.at.index, unit.at.side, place);
-                add(steps, true, Step::from_one(from, to, StepTargets::Always))
+                add_step_if(steps, true, Step::from_one(from, to, StepTargets::Always))
             }
             FeatureValue::Strong(place, feature) => {
                 let entry = FeatureEntry {
@@ -357,10 +362,10 @@ impl BuildOptions {
     }
 
     /// Appends all steps of the claims about a package on a side.
-    pub fn steps_of(
+    pub fn add_steps_of(
         self,
         packages: &[Package],
-        at: Place,
+        at: PackageOnSide,
         unit: &Package,
         steps: &mut Vec<Step>,
     ) -> Result<(), AllocError>

@@ -126,7 +126,7 @@ impl<'a> Declarations<'a> {
     }
 
     /// Returns what the package of a node declares.
-    pub fn manifest(&self, node: usize) -> Option<&PackageDeclaration<'a>>
+    pub fn package_of(&self, node: usize) -> Option<&PackageDeclaration<'a>>
         // The manifest is that of the package of the node.
         ensures { option_copied result ≡ manifest_at self.now node }
     {
@@ -266,7 +266,7 @@ impl<'m, 'a> DeclaredGraph<'m, 'a> {
     /// Returns whether a dependency of a node is a declared one: it has its kind and condition, leads to a package with
     /// the declared name, and has the name by which code refers to it. An edge from a package to itself has the
     /// library's name.
-    pub fn is_of(
+    pub fn is_declared_as(
         &self,
         node: usize,
         row: &DependencyRow<'_, 'a>,
@@ -296,7 +296,7 @@ impl<'m, 'a> DeclaredGraph<'m, 'a> {
                 return rename;
             }
         }
-        match self.declared.manifest(to) {
+        match self.declared.package_of(to) {
             Some(manifest) => manifest.library.unwrap_or(self.name(to)),
             None => self.name(to),
         }

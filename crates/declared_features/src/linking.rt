@@ -89,7 +89,7 @@ impl<'a> Names<'a> {
     {
         let mut features = Vec::new(alloc);
         'nodes: for node in 0..declarations.node_count() {
-            let indexes = feature_indexes(alloc, declarations.manifest(node))?;
+            let indexes = feature_indexes(alloc, declarations.package_of(node))?;
             features.push(indexes)?;
         }
         Ok(Names { features })
@@ -210,14 +210,14 @@ fn dependencies_of<'a>(
 {
     let mut found = Vec::new(alloc);
     let rows = dependency_rows(alloc, graph.metadata, graph.linked, node)?;
-    let Some(manifest) = graph.declared.manifest(node) else {
+    let Some(manifest) = graph.declared.package_of(node) else {
         return Ok(found);
     };
     'rows: for i in 0..rows.len() {
         'declared: for j in 0..manifest.dependencies.len() {
             let row = &rows[i];
             let declared = &manifest.dependencies[j];
-            if graph.is_of(node, row, declared) {
+            if graph.is_declared_as(node, row, declared) {
                 let named = named_of(alloc, names, node, row, declared)?;
                 found.push(named)?;
             }
@@ -414,7 +414,7 @@ fn lists_of<'a>(
         (AreRequested requested.now (name_at graph.now lists.now.node) (index_in lists.now.names.now) lists.now.node
         lists.now.found.now count) count features.items) }
 {
-    let mut features = lists.of_features(alloc, graph.declared.manifest(lists.node))?;
+    let mut features = lists.of_features(alloc, graph.declared.package_of(lists.node))?;
     if !requested.concerns(lists.node, unit) {
         return Ok(features);
     }

@@ -385,7 +385,7 @@ fn first_filtered_of<'m, 'a>(
     ensures none { IfOk result (λ found. IfNone found
         (¬ Any (IsFilteredOut searched.now.graph node) (dependencies_at searched.now.graph.declared.now node))) }
 {
-    let Some(manifest) = searched.graph.declared.manifest(node) else {
+    let Some(manifest) = searched.graph.declared.package_of(node) else {
         return Ok(None);
     };
     if !may_be_filtered_any(searched, node, kept, &manifest.dependencies) {
@@ -449,7 +449,7 @@ fn add_resolved<'a>(
     ensures { OnOk result (AreNumbers resolved.now.packages.items resolved.now.found.numbers
         → AddsNames names.old names.new (IsTurnedOnByFeature graph.now resolved.now node)) }
 {
-    let Some(manifest) = graph.declared.manifest(node) else {
+    let Some(manifest) = graph.declared.package_of(node) else {
         return Ok(());
     };
     'features: for i in 0..manifest.features.len() {
@@ -508,7 +508,7 @@ fn has_edge<'a>(
 {
     let rows = dependency_rows(alloc, graph.metadata, graph.linked, node)?;
     'rows: for i in 0..rows.len() {
-        if graph.is_of(node, &rows[i], declared) {
+        if graph.is_declared_as(node, &rows[i], declared) {
             return Ok(true);
         }
     }
@@ -589,7 +589,7 @@ fn first_missing_of<'m, 'a>(
         → ¬ Any (IsNewlyEnabled searched.now.graph resolved.now requested.now node)
         (dependencies_at searched.now.graph.declared.now node))) }
 {
-    let Some(manifest) = searched.graph.declared.manifest(node) else {
+    let Some(manifest) = searched.graph.declared.package_of(node) else {
         return Ok(None);
     };
     let by_features = enabled_by_features(alloc, &searched.graph, node, resolved, requested)?;

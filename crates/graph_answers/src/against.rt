@@ -75,7 +75,7 @@ fn place_of(word: &str) -> Option<usize> {
 }
 
 /// Parses the kinds of changes that make the run fail. Without `--fail-on`, none does.
-pub fn kinds_of(alloc: Global, words: Option<&str>) -> Result<ChangeKinds, QueryError> {
+pub fn failing_changes(alloc: Global, words: Option<&str>) -> Result<ChangeKinds, QueryError> {
     let mut kinds = [false; 7];
     let Some(words) = words else {
         return Ok(kinds);
@@ -129,7 +129,7 @@ fn present_in<'d>(
         version: described.version,
         license: described.license,
         source: registry_of(described),
-        at: graph.at(index, query),
+        at: graph.targets_in(index, query),
         features: graph.features_on(alloc, index, query)?,
     }))
 }
@@ -423,9 +423,9 @@ fn push_object(
         version: new.map(|it| it.version),
         old_version: old.map(|it| it.version),
         targets: query.count_of(at),
-        at: query.at(alloc, at)?,
-        gained: query.at(alloc, change.gained)?,
-        lost: query.at(alloc, change.lost)?,
+        at: query.targets_for_json(alloc, at)?,
+        gained: query.targets_for_json(alloc, change.gained)?,
+        lost: query.targets_for_json(alloc, change.lost)?,
         license: new.and_then(|it| it.license),
         old_license: old.and_then(|it| it.license),
         source: new.and_then(|it| it.source),

@@ -30,7 +30,7 @@ pub struct BomContext<'a> {
 }
 
 /// Returns the message for options that `--format` excludes, if there are any.
-pub fn misplaced_format(arguments: &GraphArguments<'_>) -> Option<&'static str> {
+pub fn format_conflict(arguments: &GraphArguments<'_>) -> Option<&'static str> {
     let is_audit = arguments.allow.is_some()
         || arguments.allow_file.is_some()
         || arguments.policy.is_some();
@@ -139,7 +139,7 @@ fn workspace_node<'n>(
     for i in 0..packages.len() {
         let index = packages[i].index;
         if is_root(graph, index) {
-            let at = graph.at(index, query);
+            let at = graph.targets_in(index, query);
             edges.push(Edge { to: i, at })?;
         }
     }
@@ -166,7 +166,7 @@ fn nodes_of<'n>(
         let Some(package) = packages.get(i) else {
             continue;
         };
-        let at = graph.at(package.index, query);
+        let at = graph.targets_in(package.index, query);
         nodes.push(Node {
             reference: *reference,
             at: if root == Some(i) { query.targets } else { at },
@@ -197,7 +197,7 @@ fn targets_value(
     query: &GraphQuery<'_>,
     targets: TargetSet,
 ) -> Result<String, AllocError> {
-    match query.at(alloc, targets)? {
+    match query.targets_for_json(alloc, targets)? {
         TargetList::All(_) => String::from_str(alloc, "all"),
         TargetList::Names(names) => joined(alloc, &names),
     }

@@ -8,7 +8,7 @@ use package_graphs::{PathQuery, PathTo, Side, Step, shortest_paths};
 use std::alloc::{AllocError, Global};
 
 /// The packages on a dependency path, by their indexes, from a root on. It is empty if no path is known.
-pub type PackagesOn = Vec<usize>;
+pub type PathPackages = Vec<usize>;
 
 /// A reported package by its index, and the first target on which it is in the build.
 #[derive(Clone, Copy, Drop)]
@@ -29,7 +29,7 @@ fn first_targets(
         let Some(index) = graph.order.get(one.place).copied() else {
             continue;
         };
-        if let Some(target) = graph.at(index, query).iter().next() {
+        if let Some(target) = graph.targets_in(index, query).iter().next() {
             firsts.push(FirstTarget { index, target })?;
         }
     }
@@ -43,8 +43,12 @@ fn is_used(graph: &Graph<'_>, step: Step, target: KnownTarget) -> bool {
         return true;
     };
     let (from, dependency) = (step.from, step.dependency);
-    let on_target = features.resolution.using_to(from, dependency, Side::Target);
-    let on_host = features.resolution.using_to(from, dependency, Side::Host);
+    let on_target = features
+        .resolution
+        .dependency_targets_to(from, dependency, Side::Target);
+    let on_host = features
+        .resolution
+        .dependency_targets_to(from, dependency, Side::Host);
     on_target.union(on_host).contains(target)
 }
 
@@ -59,7 +63,7 @@ fn are_used(graph: &Graph<'_>, steps: &[Step], target: KnownTarget) -> bool {
 }
 
 /// Returns the packages on a path.
-fn packages_on(alloc: Global, path: &PathTo) -> Result<PackagesOn, AllocError> {
+fn packages_on(alloc: Global, path: &PathTo) -> Result<PathPackages, AllocError> {
     let mut packages = Vec::new(alloc);
     for step in &path.steps {
         packages.push(step.from)?;
@@ -74,7 +78,7 @@ fn add_paths(
     graph: &Graph<'_>,
     query: &GraphQuery<'_>,
     (firsts, target): (&[FirstTarget], KnownTarget),
-    paths: &mut [PackagesOn],
+    paths: &mut [PathPackages],
 ) -> Result<(), AllocError> {
     let mut wanted = Vec::new(alloc);
     for first in firsts {
@@ -106,8 +110,8 @@ pub fn paths_to_reported(
     graph: &Graph<'_>,
     findings: &[PackageFinding],
     query: &GraphQuery<'_>,
-) -> Result<Vec<PackagesOn>, AllocError> {
-    let mut paths: Vec<PackagesOn> = Vec::new(alloc);
+) -> Result<Vec<PathPackages>, AllocError> {
+    let mut paths: Vec<PathPackages> = Vec::new(alloc);
     for _ in 0..graph.order.len() {
         paths.push(Vec::new(alloc))?;
     }

@@ -6,7 +6,7 @@ use licence_policies::{deprecated_message, is_listed, unlisted_messages};
 use spdx_expressions::{Licence, LicenceExpression, Part};
 use std::alloc::{AllocError, Global};
 
-/// Where a licence is.
+/// Where a licence is written, for messages about it.
 #[derive(Clone, Copy)]
 pub enum Place<'a> {
     /// In `--allow`.
@@ -19,7 +19,7 @@ pub enum Place<'a> {
 
 impl<'a> Place<'a> {
     /// Formats the place and the level of a message as the start of its line.
-    pub fn start(&self, alloc: Global, level: &str) -> Result<String, AllocError> {
+    pub fn line_prefix(&self, alloc: Global, level: &str) -> Result<String, AllocError> {
         match self {
             Place::Option => format!(in alloc; "{level}: --allow: "),
             Place::Line(file, number) => format!(in alloc; "{file}:{number}: {level}: "),
@@ -48,7 +48,7 @@ fn push_message(
     level: &str,
     message: &str,
 ) -> Result<(), AllocError> {
-    let start = place.start(alloc, level)?;
+    let start = place.line_prefix(alloc, level)?;
     let line = format!(in alloc; "{start}{message}\n")?;
     push(text, line.as_str())
 }
@@ -163,8 +163,9 @@ impl Messages {
         Ok(())
     }
 
-    /// Adds the messages about the licence of a package: the warnings about the first of its licences that has one. If
-    /// `license`, the text, is given, adds the note on the first licence that is deprecated too, and one on a `/`.
+    /// Adds the messages about the licence of a package: warnings about the first of its licences with an identifier
+    /// that is not in SPDX's licence list. If `license`, the text of the expression, is given, also adds a note on the
+    /// first licence whose identifier is deprecated, and a note if the text has a `/`.
     pub fn add_package(
         &mut self,
         alloc: Global,
@@ -185,6 +186,7 @@ impl Messages {
         self.count_from(before);
         Ok(())
     }
+
     /// Counts a licence if the text was `before` bytes long and is longer now.
     fn count_from(&mut self, before: usize) {
         if self.text.len() > before {

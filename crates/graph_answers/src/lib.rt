@@ -17,9 +17,9 @@ mod page;
 mod policies;
 mod unused;
 
-pub use against::{kinds_of, show_changes};
+pub use against::{failing_changes, show_changes};
 pub use excluded::exclude;
 use graph_queries::{graph, lines, packages, query};
-pub use licence_audit::{Audit, reported_in, show_licences};
+pub use licence_audit::{Audit, findings_in, show_licences};
 pub use page::page_of;
 pub use policies::{AuditPolicy, GivenPolicy, GraphNames, arguments_by_policy, policy_of};

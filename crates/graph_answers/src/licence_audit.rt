@@ -37,7 +37,7 @@ pub struct Audit<'a> {
 /// Returns the message for an entry that is not a licence.
 fn no_licence(alloc: Global, place: Place<'_>, error: &ParseError) -> Result<String, AllocError> {
     let lines = fault_lines(alloc, error)?;
-    let start = place.start(alloc, "error")?;
+    let start = place.line_prefix(alloc, "error")?;
     format!(in alloc; "{start}the entry is not a licence\n{lines}")
 }
 
@@ -213,7 +213,7 @@ fn subjects_of<'a>(
 ) -> Result<Vec<Subject<'a>>, AllocError> {
     let mut subjects = Vec::new(alloc);
     for i in &graph.order {
-        let is_present = !graph.at(*i, query).is_empty();
+        let is_present = !graph.targets_in(*i, query).is_empty();
         let subject = match graph.described(*i) {
             Some(described) => {
                 let is_ignored = by.ignores_private && described.is_private;
@@ -294,8 +294,8 @@ fn messages_on(
     Ok(messages)
 }
 
-/// Returns for each package of a graph what an audit reports of its licence.
-pub fn reported_in(
+/// Returns for each package of a graph the finding of an audit about its licence, if there is one.
+pub fn findings_in(
     alloc: Global,
     graph: &Graph<'_>,
     query: &GraphQuery<'_>,

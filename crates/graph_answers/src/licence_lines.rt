@@ -1,6 +1,6 @@
 //! The lines of JSON of an audit.
 
-use crate::dependency_paths::PackagesOn;
+use crate::dependency_paths::PathPackages;
 use crate::faults::fault_message;
 use crate::graph::Graph;
 use crate::licence_report::{LicenceReport, Reason};
@@ -59,7 +59,7 @@ fn fault_of(alloc: Global, finding: &Finding) -> Result<Fault, AllocError> {
 fn ids_of<'a>(
     alloc: Global,
     graph: &Graph<'a>,
-    path: &PackagesOn,
+    path: &PathPackages,
 ) -> Result<Option<Vec<&'a str>>, AllocError> {
     if path.is_empty() {
         return Ok(None);
@@ -101,7 +101,7 @@ impl<'r, 'a> LicenceReport<'r, 'a> {
             expression,
             license_file: described.license_file,
             targets: query.count_of(targets),
-            at: query.at(alloc, targets)?,
+            at: query.targets_for_json(alloc, targets)?,
             path: ids_of(alloc, graph, path)?,
             side: built.sides().word(),
             finding: Reason::of(finding, described).word(),

@@ -1,7 +1,7 @@
 //! The report of an audit for people: the licences for which packages are reported, each with its packages, and how
 //! many packages there are by reason.
 
-use crate::dependency_paths::PackagesOn;
+use crate::dependency_paths::PathPackages;
 use crate::faults::fault_lines;
 use crate::graph::Graph;
 use crate::lines::{format_targets, format_text, push, push_comma};
@@ -108,7 +108,7 @@ pub struct LicenceReport<'r, 'a> {
     pub findings: &'r [PackageFinding],
     pub query: &'r GraphQuery<'a>,
     /// The dependency paths to the reported packages, by the indexes of these.
-    pub paths: &'r [PackagesOn],
+    pub paths: &'r [PathPackages],
 }
 
 impl<'r, 'a> LicenceReport<'r, 'a> {
@@ -186,7 +186,7 @@ impl<'r, 'a> LicenceReport<'r, 'a> {
         let mut targets = TargetSet::none();
         for (_, place) in group {
             if let Some(index) = self.index_of(*place) {
-                targets = targets.union(self.graph.at(index, self.query));
+                targets = targets.union(self.graph.targets_in(index, self.query));
             }
         }
         targets

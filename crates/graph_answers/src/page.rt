@@ -4,7 +4,7 @@
 
 use crate::dates::day_of;
 use cargo_platform::printable_text;
-use graph_queries::classes::{Class, classes_at};
+use graph_queries::classes::{Class, numbered_classes};
 use graph_queries::graph::Graph;
 use graph_queries::lines::{format_target_count, format_text, joined_names};
 use graph_queries::packages::{ReachingKinds, count_present, kinds_reached};
@@ -63,7 +63,7 @@ pub fn page_of(
     made: Provenance<'_>,
     reported: &[Option<&'static str>],
 ) -> Result<String, AllocError> {
-    let classes = classes_at(alloc, graph, query)?;
+    let classes = numbered_classes(alloc, graph, query)?;
     let mut page = Page::new(alloc);
     add_markup(&mut page, START)?;
     push_title(&mut page, alloc, graph)?;
@@ -79,7 +79,7 @@ pub fn page_of(
         push_package(&mut page, alloc, graph, row, query)?;
         push_licence(&mut page, alloc, graph, row)?;
         push_features(&mut page, alloc, graph, row, query)?;
-        push_dots(&mut page, graph.present(row.index), &classes)?;
+        push_dots(&mut page, graph.targets_of(row.index), &classes)?;
         add_markup(&mut page, "</tr>\n")?;
     }
     add_markup(&mut page, "</tbody>\n</table></div>\n</body>\n</html>\n")?;

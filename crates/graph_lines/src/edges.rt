@@ -169,7 +169,7 @@ fn line_of<'g, 'c, 'a>(
         kind: step.kind,
         condition: step.condition,
         targets: query.count_of(targets),
-        at: query.at(alloc, targets)?,
+        at: query.targets_for_json(alloc, targets)?,
         side: followed.sides().word(),
         sides: origins_at(alloc, &leading, targets, query)?,
         simple: smaller_condition(alloc, edge, finder)?,

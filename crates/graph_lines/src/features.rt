@@ -50,11 +50,11 @@ fn push_on<'f>(
     if !is_selected(query.side, side) {
         return Ok(());
     }
-    let Some(manifest) = features.declarations.manifest(index) else {
+    let Some(manifest) = features.declarations.package_of(index) else {
         return Ok(());
     };
     for i in 0..manifest.features.len() {
-        let targets = features.resolution.with_feature(index, side, i);
+        let targets = features.resolution.targets_with_feature(index, side, i);
         let targets = targets.intersection(query.targets);
         if !targets.is_empty() {
             found.push(On {
@@ -126,7 +126,7 @@ fn push_object(
         feature: on.name,
         side: side_word(on.side),
         targets: query.count_of(on.targets),
-        at: query.at(alloc, on.targets)?,
+        at: query.targets_for_json(alloc, on.targets)?,
     };
     json_lines::push_spaced_line(text, alloc, &line)
 }

@@ -41,7 +41,7 @@ pub fn origins_at<'a>(
         };
         if !from.targets.equals(all) {
             origin.targets = Some(query.count_of(from.targets));
-            origin.at = Some(query.at(alloc, from.targets)?);
+            origin.at = Some(query.targets_for_json(alloc, from.targets)?);
         }
         origins.push(origin)?;
     }

@@ -108,7 +108,7 @@ pub fn package_lines<'a>(
     linked: Linked<'a>,
     host: Option<KnownTarget>,
 ) -> Result<String, AllocError> {
-    let query = GraphQuery::packages_on(host);
+    let query = GraphQuery::for_all_packages(host);
     let graph = Graph::of(alloc, metadata, linked, &query)?;
     let answer = show_packages(alloc, &graph, &query)?;
     Ok(answer.output)
@@ -149,7 +149,7 @@ fn push_object(
         id: described.id,
         license: described.license,
         targets: query.count_of(targets),
-        at: query.at(alloc, targets)?,
+        at: query.targets_for_json(alloc, targets)?,
         side: built.sides().word(),
         kinds: match listed.reached {
             Some(reached) => reached.kinds(alloc)?,

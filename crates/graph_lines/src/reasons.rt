@@ -52,7 +52,7 @@ pub fn left_out_of<'a>(
         left_out.push(LeftOut {
             reason: reason.word,
             targets: query.count_of(*targets),
-            at: query.at(alloc, *targets)?,
+            at: query.targets_for_json(alloc, *targets)?,
         })?;
     }
     Ok(Some(left_out))

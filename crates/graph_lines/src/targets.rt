@@ -1,7 +1,7 @@
 //! `--show targets`: the classes of targets that no package distinguishes, and the packages of each class.
 
 use cargo_platform::printable_text;
-use graph_queries::classes::{Class, classes_at};
+use graph_queries::classes::{Class, numbered_classes};
 use graph_queries::graph::Graph;
 use graph_queries::lines::{format_target_count, joined_names, push, push_comma};
 use graph_queries::query::GraphQuery;
@@ -34,7 +34,7 @@ pub fn show_targets(
     query: &GraphQuery<'_>,
 ) -> Result<Answer, AllocError> {
     let mut answer = Answer::of(alloc, String::new(alloc), Status::Fine);
-    let classes = classes_at(alloc, graph, query)?;
+    let classes = numbered_classes(alloc, graph, query)?;
     for class in &classes {
         if query.json {
             push_object(&mut answer.output, alloc, graph, class, query)?;
@@ -81,7 +81,7 @@ fn push_table(
     for i in &graph.order {
         let package = graph.format_package(alloc, *i)?;
         push(text, package.as_str())?;
-        push_classes(text, alloc, graph.present(*i), classes)?;
+        push_classes(text, alloc, graph.targets_of(*i), classes)?;
     }
     Ok(())
 }
@@ -123,7 +123,7 @@ fn ids_at<'a>(
 ) -> Result<Vec<&'a str>, AllocError> {
     let mut ids = Vec::new(alloc);
     for i in &graph.order {
-        if graph.present(*i).intersection(targets).is_empty() {
+        if graph.targets_of(*i).intersection(targets).is_empty() {
             continue;
         }
         if let Some(described) = graph.described(*i) {
@@ -145,7 +145,7 @@ fn push_object(
         class: class.number,
         condition: class.condition.as_ref().map(|text| text.as_str()),
         targets: query.count_of(class.targets),
-        at: query.at(alloc, class.targets)?,
+        at: query.targets_for_json(alloc, class.targets)?,
         packages: ids_at(alloc, graph, class.targets)?,
     };
     json_lines::push_spaced_line(text, alloc, &line)

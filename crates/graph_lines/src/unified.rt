@@ -49,11 +49,11 @@ fn names_on<'a>(
     targets: TargetSet,
 ) -> Result<Vec<&'a str>, AllocError> {
     let mut names = Vec::new(alloc);
-    let Some(manifest) = features.declarations.manifest(index) else {
+    let Some(manifest) = features.declarations.package_of(index) else {
         return Ok(names);
     };
     for i in 0..manifest.features.len() {
-        let set = features.resolution.with_feature(index, side, i);
+        let set = features.resolution.targets_with_feature(index, side, i);
         if !set.intersection(targets).is_empty() {
             names.push(manifest.features[i].name)?;
         }
@@ -73,13 +73,13 @@ fn built_for<'a>(
     if !is_selected(query.side, side) {
         return Ok(built);
     }
-    let count = match features.declarations.manifest(index) {
+    let count = match features.declarations.package_of(index) {
         Some(manifest) => manifest.features.len(),
         None => 0,
     };
     let mut sets = Vec::new(alloc);
     for i in 0..count {
-        sets.push(features.resolution.with_feature(index, side, i))?;
+        sets.push(features.resolution.targets_with_feature(index, side, i))?;
     }
     let used = features.resolution.used_on(index, side);
     for class in partition_targets(alloc, &sets)? {
@@ -179,7 +179,7 @@ fn push_object(
         side: side_word(built.side),
         features: &built.features,
         targets: query.count_of(built.targets),
-        at: query.at(alloc, built.targets)?,
+        at: query.targets_for_json(alloc, built.targets)?,
     };
     json_lines::push_spaced_line(text, alloc, &line)
 }

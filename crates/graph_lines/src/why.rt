@@ -74,7 +74,7 @@ fn ways_to(
     query: &GraphQuery<'_>,
 ) -> Result<Ways, AllocError> {
     let mut ways: Vec<Way> = Vec::new(alloc);
-    for target in graph.at(index, query).iter() {
+    for target in graph.targets_in(index, query).iter() {
         let Some(steps) = shortest_steps(alloc, graph, index, target, query)? else {
             continue;
         };
@@ -269,7 +269,7 @@ impl<'g, 'a> PathLine<'g, 'a> {
             package: name_and_version(alloc, described)?,
             id: described.id,
             targets: query.count_of(targets),
-            at: query.at(alloc, targets)?,
+            at: query.targets_for_json(alloc, targets)?,
             path,
         })
     }

@@ -23,7 +23,7 @@ pub struct Class {
 fn different_sets(alloc: Global, graph: &Graph<'_>) -> Result<Vec<TargetSet>, AllocError> {
     let mut different: Vec<TargetSet> = Vec::new(alloc);
     for i in 0..graph.linked.packages.len() {
-        let set = graph.present(i);
+        let set = graph.targets_of(i);
         if !different.contains(&set) {
             different.push(set)?;
         }
@@ -90,7 +90,7 @@ fn condition_of(
 
 /// Returns the classes that contain a selected target, in the order of [`selected_classes`], each with its number, its
 /// selected targets and a condition for them.
-pub fn classes_at(
+pub fn numbered_classes(
     alloc: Global,
     graph: &Graph<'_>,
     query: &GraphQuery<'_>,

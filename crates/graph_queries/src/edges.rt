@@ -63,7 +63,7 @@ fn is_followed(graph: &Graph<'_>, edge: &Edge<'_>, kinds: Kinds) -> bool {
         return false;
     };
     match unit.dependencies.get(edge.place) {
-        Some(dependency) => kinds.follow(unit.is_root, dependency.kind),
+        Some(dependency) => kinds.follows(unit.is_root, dependency.kind),
         None => false,
     }
 }

@@ -52,34 +52,36 @@ impl<'a> Graph<'a> {
         })
     }
 
-    /// Returns the targets of a query on which a package is in the build for some selected side.
-    pub fn at(&self, index: usize, query: &GraphQuery<'_>) -> TargetSet {
+    /// Returns the targets of a query on which a package is in the build for some selected side. These are the ones of
+    /// `targets_of` that the query selects.
+    pub fn targets_in(&self, index: usize, query: &GraphQuery<'_>) -> TargetSet {
         self.built(index, query).targets()
     }
 
-    /// Returns the targets on which a package is in the build for some selected side.
-    pub fn present(&self, index: usize) -> TargetSet {
-        let target = self.present_on(index, Side::Target);
-        target.union(self.present_on(index, Side::Host))
+    /// Returns the targets on which a package is in the build for some selected side, also those that a query does not
+    /// select.
+    pub fn targets_of(&self, index: usize) -> TargetSet {
+        let target = self.targets_on_side(index, Side::Target);
+        target.union(self.targets_on_side(index, Side::Host))
     }
 
     /// Returns, for each selected side, the targets of a query on which a package is in the build for that side.
     pub fn built(&self, index: usize, query: &GraphQuery<'_>) -> BySide {
         let built = BySide {
-            target: self.present_on(index, Side::Target),
-            host: self.present_on(index, Side::Host),
+            target: self.targets_on_side(index, Side::Target),
+            host: self.targets_on_side(index, Side::Host),
         };
         built.within(query.targets)
     }
 
     /// Returns the targets on which a package is in the build for this side. There are none if it is not selected.
-    fn present_on(&self, index: usize, side: Side) -> TargetSet {
+    fn targets_on_side(&self, index: usize, side: Side) -> TargetSet {
         if !is_selected(self.side, side) {
             return TargetSet::none();
         }
         match &self.features {
             Some(features) => features.resolution.used_on(index, side),
-            None => self.sets.on(index, side),
+            None => self.sets.on_side(index, side),
         }
     }
 
@@ -87,8 +89,8 @@ impl<'a> Graph<'a> {
     /// leave it out.
     pub fn targets_before_features(&self, index: usize) -> TargetSet {
         match self.side {
-            Some(side) => self.sets.on(index, side),
-            None => self.sets.at(index),
+            Some(side) => self.sets.on_side(index, side),
+            None => self.sets.on_any_side(index),
         }
     }
 
@@ -96,15 +98,15 @@ impl<'a> Graph<'a> {
     /// is its index among the dependencies of the package.
     pub fn followed(&self, index: usize, place: usize, query: &GraphQuery<'_>) -> BySide {
         let followed = BySide {
-            target: self.following_to(index, place, Side::Target, query),
-            host: self.following_to(index, place, Side::Host, query),
+            target: self.followed_to(index, place, Side::Target, query),
+            host: self.followed_to(index, place, Side::Host, query),
         };
         followed.within(query.targets)
     }
 
     /// Returns the targets on which a dependency is followed to a package that is built for this side. There are none
     /// if it is not selected.
-    fn following_to(
+    fn followed_to(
         &self,
         index: usize,
         place: usize,
@@ -115,7 +117,9 @@ impl<'a> Graph<'a> {
             return TargetSet::none();
         }
         if let Some(features) = &self.features {
-            return features.resolution.using_to(index, place, side);
+            return features
+                .resolution
+                .dependency_targets_to(index, place, side);
         }
         let followed = PackageQuery {
             packages: &self.linked.packages,
@@ -123,7 +127,7 @@ impl<'a> Graph<'a> {
             host: query.host,
         };
         match self.dependency(index, place) {
-            Some(dependency) => self.sets.following_to(followed, index, &dependency, side),
+            Some(dependency) => self.sets.followed_to(followed, index, &dependency, side),
             None => TargetSet::none(),
         }
     }
@@ -182,7 +186,7 @@ impl<'a> Graph<'a> {
         let Some(features) = &self.features else {
             return Ok(names);
         };
-        let Some(manifest) = features.declarations.manifest(index) else {
+        let Some(manifest) = features.declarations.package_of(index) else {
             return Ok(names);
         };
         for i in 0..manifest.features.len() {
@@ -199,7 +203,9 @@ impl<'a> Graph<'a> {
     fn feature_on(&self, index: usize, side: Side, feature: usize) -> TargetSet {
         match &self.features {
             Some(features) if is_selected(self.side, side) => {
-                features.resolution.with_feature(index, side, feature)
+                features
+                    .resolution
+                    .targets_with_feature(index, side, feature)
             }
             _ => TargetSet::none(),
         }

@@ -36,7 +36,7 @@ fn holds_from(side: Side, dependency: &Dependency, host: Option<KnownTarget>) ->
 }
 
 /// Returns the targets on which a package that is built for the side `from` uses its dependency at an index.
-pub(crate) fn using_from(
+pub(crate) fn dependency_targets_from(
     resolved: &Resolved,
     index: usize,
     place: usize,
@@ -64,10 +64,12 @@ fn needed_for(
     host: Option<KnownTarget>,
 ) -> TargetSet {
     match &graph.features {
-        Some(features) => features.resolution.using_from(index, place, side),
+        Some(features) => features
+            .resolution
+            .dependency_targets_from(index, place, side),
         None => {
             let holds = holds_from(side, dependency, host);
-            graph.sets.on(index, side).intersection(holds)
+            graph.sets.on_side(index, side).intersection(holds)
         }
     }
 }

@@ -79,7 +79,7 @@ pub fn kinds_reached(
 pub fn count_present(graph: &Graph<'_>, query: &GraphQuery<'_>) -> usize {
     let mut count: usize = 0;
     for i in &graph.order {
-        if !graph.at(*i, query).is_empty() {
+        if !graph.targets_in(*i, query).is_empty() {
             count = count.saturating_add(1);
         }
     }

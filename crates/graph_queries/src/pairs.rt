@@ -31,7 +31,7 @@ fn packages_of<'d>(
         let Some(described) = graph.described(*index) else {
             continue;
         };
-        if graph.at(*index, query).is_empty() {
+        if graph.targets_in(*index, query).is_empty() {
             continue;
         }
         let package = (described.name, described.version);

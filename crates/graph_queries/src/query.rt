@@ -245,7 +245,7 @@ fn misplaced(arguments: &GraphArguments<'_>) -> Option<&'static str> {
 
 impl<'a> GraphQuery<'a> {
     /// Returns the query for all packages, as lines of JSON, on all known targets, in builds on `host`.
-    pub fn packages_on(host: Option<KnownTarget>) -> GraphQuery<'a> {
+    pub fn for_all_packages(host: Option<KnownTarget>) -> GraphQuery<'a> {
         GraphQuery {
             targets: TargetSet::all(),
             count: COUNT,
@@ -346,7 +346,11 @@ impl<'a> GraphQuery<'a> {
     }
 
     /// Returns the targets of a set for a line of JSON: `all` if these are the selected targets, and else their names.
-    pub fn at(&self, alloc: Global, targets: TargetSet) -> Result<TargetList<'a>, AllocError> {
+    pub fn targets_for_json(
+        &self,
+        alloc: Global,
+        targets: TargetSet,
+    ) -> Result<TargetList<'a>, AllocError> {
         if targets.equals(self.targets) {
             return Ok(TargetList::All(AllTargets::All));
         }

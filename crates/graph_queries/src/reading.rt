@@ -39,7 +39,7 @@ impl From<QueryError> for Rejected {
 
 impl Rejected {
     /// Returns the refusal with its whole message. `file` is the name of the document's file, as it is displayed.
-    pub fn in_file(self, alloc: Global, file: &str) -> QueryError {
+    pub fn with_whole_message(self, alloc: Global, file: &str) -> QueryError {
         match self {
             Rejected::Document(reason) => file_error(alloc, file, reason.as_str()),
             Rejected::Refused(refusal) => refusal,
@@ -197,7 +197,7 @@ impl<'a> GraphDocument<'a> {
     }
 
     /// Returns the graph with what its packages declare. Rejects a document that does not say it.
-    pub fn declaring(&self, alloc: Global) -> Result<DeclaredGraph<'_, 'a>, Rejected> {
+    pub fn with_declarations(&self, alloc: Global) -> Result<DeclaredGraph<'_, 'a>, Rejected> {
         match &self.declared {
             Ok(declared) => Ok(self.with(declared)),
             Err(refusal) => Err(Rejected::Document(format!(in alloc; "{refusal}")?)),
@@ -238,7 +238,7 @@ pub fn graph_of<'a>(
 /// # Errors
 ///
 /// As of [`GraphDocument::of`] and [`graph_of`].
-pub fn graph_in<'a>(
+pub fn graph_of_json<'a>(
     alloc: Global,
     document: &'a Value,
     query: &GraphQuery<'_>,

@@ -8,7 +8,7 @@ use key_answers::printing::format_name;
 use std::alloc::{AllocError, Global};
 
 /// Splits the requested features at commas and spaces.
-pub fn names_of<'a>(alloc: Global, features: &[&'a str]) -> Result<Vec<&'a str>, AllocError> {
+pub fn split_features<'a>(alloc: Global, features: &[&'a str]) -> Result<Vec<&'a str>, AllocError> {
     let mut names = Vec::new(alloc);
     for words in features {
         for name in words.split([',', ' ']) {
@@ -102,7 +102,7 @@ fn has_feature(package: Option<&str>, manifest: &PackageDeclaration<'_>, name: &
 
 /// Returns whether the package of a node has a feature of this name.
 fn has(graph: &DeclaredGraph<'_, '_>, node: usize, package: Option<&str>, feature: &str) -> bool {
-    match graph.declared.manifest(node) {
+    match graph.declared.package_of(node) {
         Some(manifest) => has_feature(package, manifest, feature),
         None => false,
     }

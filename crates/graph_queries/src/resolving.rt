@@ -1,10 +1,10 @@
 //! Feature resolution: the resolver, the features that are requested, and what they turn on.
 
 use crate::incomplete::lacking_reason;
-use crate::origins::using_from;
+use crate::origins::dependency_targets_from;
 use crate::query::{GraphQuery, Show};
 use crate::reading::{GraphDocument, Rejected};
-use crate::requested::{current_node, names_of, reject_unknown, split_by_root};
+use crate::requested::{current_node, reject_unknown, split_by_root, split_features};
 use cargo_features::{BuildOptions, Claim, Resolved, resolve};
 use cargo_metadata::fields::text_at;
 use declared_features::{Declarations, RequestedFeatures, ResolverInput, resolver_input};
@@ -34,14 +34,14 @@ pub struct Resolution {
 impl Resolution {
     /// Returns the targets on which a dependency is used, and leads to a package that is built for the side `to`.
     /// `place` is its index among those of the linked package.
-    pub fn using_to(&self, index: usize, place: usize, to: Side) -> TargetSet {
+    pub fn dependency_targets_to(&self, index: usize, place: usize, to: Side) -> TargetSet {
         let mut targets = TargetSet::none();
         let Some(edges) = self.edges.get(index) else {
             return targets;
         };
         for i in 0..edges.len() {
             if edges[i] == place {
-                targets = targets.union(self.resolved.using_to(index, i, to));
+                targets = targets.union(self.resolved.dependency_targets_to(index, i, to));
             }
         }
         targets
@@ -49,7 +49,7 @@ impl Resolution {
 
     /// Returns the targets on which a package that is built for the side `from` uses a dependency. `place` is its index
     /// among those of the linked package.
-    pub fn using_from(&self, index: usize, place: usize, from: Side) -> TargetSet {
+    pub fn dependency_targets_from(&self, index: usize, place: usize, from: Side) -> TargetSet {
         let mut targets = TargetSet::none();
         let Some(unit) = self.resolved.packages().get(index) else {
             return targets;
@@ -62,15 +62,21 @@ impl Resolution {
                 continue;
             }
             if let Some(dependency) = unit.dependencies.get(i) {
-                targets = targets.union(using_from(&self.resolved, index, i, dependency, from));
+                targets = targets.union(dependency_targets_from(
+                    &self.resolved,
+                    index,
+                    i,
+                    dependency,
+                    from,
+                ));
             }
         }
         targets
     }
 
     /// Returns the targets on which the build uses a package for a side, with a feature that is on.
-    pub fn with_feature(&self, index: usize, side: Side, feature: usize) -> TargetSet {
-        self.resolved.with_feature(index, side, feature)
+    pub fn targets_with_feature(&self, index: usize, side: Side, feature: usize) -> TargetSet {
+        self.resolved.targets_with_feature(index, side, feature)
     }
 
     /// Returns the targets on which the build uses a package for a side.
@@ -186,7 +192,7 @@ fn resolved_of<'a>(
     features: &RequestedFeatures<'a>,
     build: BuildOptions,
 ) -> Result<Resolution, Rejected> {
-    let graph = input.declaring(alloc)?;
+    let graph = input.with_declarations(alloc)?;
     reject_unknown(alloc, &graph, features)?;
     let ResolverInput { packages, edges } = resolver_input(alloc, &graph, features)?;
     let resolved = resolve(alloc, packages, build)?;
@@ -212,7 +218,7 @@ pub fn resolution_of<'a>(
         return Ok(None);
     }
     let host = host_of(alloc, query)?;
-    let graph = input.declaring(alloc)?;
+    let graph = input.with_declarations(alloc)?;
     let root = root_package(input.document);
     let resolver = resolver_of(alloc, query.requested.resolver, root)?;
     let current = if resolver == Resolver::One && root.is_some() {
@@ -220,7 +226,7 @@ pub fn resolution_of<'a>(
     } else {
         None
     };
-    let names = names_of(alloc, query.requested.features)?;
+    let names = split_features(alloc, query.requested.features)?;
     let (names, of_others) = split_by_root(alloc, names, current, &graph)?;
     let features = RequestedFeatures {
         names: &names,

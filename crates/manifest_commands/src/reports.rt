@@ -1,15 +1,15 @@
 //! The report of `graph` on the output of `cargo metadata`.
 
 use cargo_platform::printable_text;
-use graph_answers::cyclonedx_report::{BomContext, misplaced_format, show_bill};
+use graph_answers::cyclonedx_report::{BomContext, format_conflict, show_bill};
 use graph_answers::{
-    Audit, AuditPolicy, GivenPolicy, GraphNames, arguments_by_policy, exclude, kinds_of, page_of,
-    policy_of, reported_in, show_changes, show_licences,
+    Audit, AuditPolicy, GivenPolicy, GraphNames, arguments_by_policy, exclude, failing_changes,
+    findings_in, page_of, policy_of, show_changes, show_licences,
 };
 use graph_lines::show;
 use graph_queries::graph::Graph;
 use graph_queries::query::{GraphArguments, GraphQuery, argument_error};
-use graph_queries::reading::{GraphDocument, Rejected, document_of, graph_in, graph_of};
+use graph_queries::reading::{GraphDocument, Rejected, document_of, graph_of, graph_of_json};
 use key_answers::answer::{Answer, QueryError, Status, answer_or_error};
 use selected_targets::{TableSelection, group_targets};
 use serde_json::Value;
@@ -53,7 +53,7 @@ fn request_of<'a, 'b>(
     policy: Option<AuditPolicy>,
 ) -> Result<Request<'a, 'b>, QueryError> {
     if bill.is_some() {
-        if let Some(text) = misplaced_format(arguments) {
+        if let Some(text) = format_conflict(arguments) {
             return Err(argument_error(alloc, text));
         }
     }
@@ -90,7 +90,7 @@ fn report_on_graph(
         Some(made) if answer.status != Status::Unusable => made,
         _ => return Ok(Report::without_page(answer)),
     };
-    let reported = reported_in(alloc, graph, query, audit)?;
+    let reported = findings_in(alloc, graph, query, audit)?;
     let page = page_of(alloc, graph, query, made, &reported)?;
     Ok(Report {
         answer,
@@ -158,7 +158,7 @@ fn report_on_document(
 fn of_file<T>(alloc: Global, file: &str, found: Result<T, Rejected>) -> Result<T, QueryError> {
     match found {
         Ok(found) => Ok(found),
-        Err(rejected) => Err(rejected.in_file(alloc, file)),
+        Err(rejected) => Err(rejected.with_whole_message(alloc, file)),
     }
 }
 
@@ -171,12 +171,12 @@ fn report_against(
     against: (&str, &str),
 ) -> Result<Report, Rejected> {
     let (old_file, old_text) = against;
-    let failing = kinds_of(alloc, fail_on)?;
+    let failing = failing_changes(alloc, fail_on)?;
     let old_file = printable_text(alloc, old_file)?;
     let old_document = of_file(alloc, old_file.as_str(), document_of(alloc, old_text))?;
-    let old = graph_in(alloc, &old_document, query);
+    let old = graph_of_json(alloc, &old_document, query);
     let old = of_file(alloc, old_file.as_str(), old)?;
-    let new = graph_in(alloc, document, query)?;
+    let new = graph_of_json(alloc, document, query)?;
     let answer = show_changes(alloc, &old, &new, query, failing)?;
     Ok(Report::without_page(answer))
 }

@@ -543,7 +543,7 @@ pub extern "C" fn nevgrasi_graph(
     ensures span { HasNoSpan outcome.new }
     ensures outcome { outcome.new.code ≡ result }
 {
-    *outcome = byte_graphs::graph(alloc, document, host, out);
+    *outcome = byte_graphs::package_lines(alloc, document, host, out);
     outcome.code
 }
 

@@ -14,7 +14,7 @@ use Rattle.package_graphs.specs.Kinds.{is_followed}
 use Rattle.package_graphs.specs.Packages.{is_root, is_macro, dependencies, Sided, is_of_host, evaluated_at, side}
 use Rattle.package_graphs.specs.Packages.{side_after}
 use Rattle.package_graphs.specs.Packages.{StartsOn, LeadsOn, IsThereOn, node_of}
-use Rattle.package_graphs.specs.Inside.Numbered.{holds_by, edge_of, edges_of, numbered, AreFirst}
+use Rattle.package_graphs.specs.Inside.Numbered.{condition_targets, edge_of, edges_of, numbered, AreFirst}
 use Rattle.package_graphs.specs.declared.graph.Edge.{Edge}
 use Rattle.package_graphs.specs.declared.packages.Dependency.{Dependency}
 use Rattle.package_graphs.specs.declared.packages.Package.{Package}
@@ -83,7 +83,7 @@ of_host false s d h k is = refl
 
 pub holds_is : (host : Option KnownTarget) (always never : TargetSet) (from : Side) (d : Dependency) (k : ℕ)
     → is_member always k ≡ true → is_member never k ≡ false
-    → is_member (holds_by host always never from d) k ≡ is_member d.holds (evaluated_at host k from d.kind)
+    → is_member (condition_targets host always never from d) k ≡ is_member d.holds (evaluated_at host k from d.kind)
 holds_is None always never from d k all none = refl
 holds_is (Some host) always never from d k all none =
     of_host (is_of_host from d.kind) (cond (is_member d.holds (place host)) always never) d.holds (place host) k

@@ -13,7 +13,7 @@ use crate::sides::Side;
 use crate::two_sided_graph::TraversalQuery;
 use known_targets::{KnownTarget, TargetSet};
 
-/// What `package_targets` was called with.
+/// The arguments of `package_targets`.
 #[derive(Clone, Copy)]
 pub struct PackageQuery<'a> {
     pub packages: &'a [Package],
@@ -32,7 +32,7 @@ impl PackageTargets {
     /// Returns the targets on which a dependency of the package at index `from` is followed: the package is in the
     /// build, and the condition of the dependency is true. `query` has the arguments with which `package_targets`
     /// returned these sets.
-    pub fn following(
+    pub fn followed(
         &self,
         query: PackageQuery<'_>,
         from: usize,
@@ -45,7 +45,7 @@ impl PackageTargets {
     {
         if !query
             .kinds
-            .follow(is_root(query.packages, from), dependency.kind)
+            .follows(is_root(query.packages, from), dependency.kind)
         {
             return TargetSet::none();
         }
@@ -56,7 +56,7 @@ impl PackageTargets {
 
     /// Returns the targets on which a dependency of the package at index `from` is followed to a package that is built
     /// for the side `to`. `query` has the arguments with which `package_targets` returned these sets.
-    pub fn following_to(
+    pub fn followed_to(
         &self,
         query: PackageQuery<'_>,
         from: usize,
@@ -70,7 +70,7 @@ impl PackageTargets {
     {
         if !query
             .kinds
-            .follow(is_root(query.packages, from), dependency.kind)
+            .follows(is_root(query.packages, from), dependency.kind)
         {
             return TargetSet::none();
         }
@@ -120,8 +120,8 @@ impl PackageTargets {
             ≡ (is_on self.now from side k
             && is_member dependency.now.holds (evaluated_at traversal.now.host k side dependency.now.kind)) }
     {
-        let holds = traversal.holds_by(side, dependency);
-        self.on(from, side).intersection(holds)
+        let holds = traversal.condition_targets(side, dependency);
+        self.on_side(from, side).intersection(holds)
     }
 }
 

@@ -20,7 +20,7 @@ pub struct PackageTargets {
 
 impl PackageTargets {
     /// Returns the targets on which the package at an index is in the build for this side.
-    pub fn on(&self, index: usize, side: Side) -> TargetSet
+    pub fn on_side(&self, index: usize, side: Side) -> TargetSet
         // The result is the set of the package for the side.
         ensures { (k : ℕ) → k < COUNT → is_member result k ≡ is_on self.now index side k }
     {
@@ -35,12 +35,12 @@ impl PackageTargets {
     }
 
     /// Returns the targets on which the package at an index is in the build.
-    pub fn at(&self, index: usize) -> TargetSet
+    pub fn on_any_side(&self, index: usize) -> TargetSet
         // The result has the targets of both sides.
         ensures { (k : ℕ) → k < COUNT → is_member result k ≡ is_at self.now index k }
     {
-        self.on(index, Side::Target)
-            .union(self.on(index, Side::Host))
+        self.on_side(index, Side::Target)
+            .union(self.on_side(index, Side::Host))
     }
 }
 

@@ -26,7 +26,7 @@ pub struct Kinds {
 
 impl Kinds {
     /// Returns whether a dependency of this kind is followed. Dev-dependencies are followed only from roots.
-    pub fn follow(self, is_root: bool, kind: Kind) -> bool
+    pub fn follows(self, is_root: bool, kind: Kind) -> bool
         ensures { result ≡ is_followed self is_root kind }
     {
         match kind {

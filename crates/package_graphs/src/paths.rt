@@ -220,11 +220,14 @@ impl<'a> Search<'a> {
         let traversal = &self.traversal;
         if !traversal
             .kinds
-            .follow(is_root(self.packages, index), dependency.kind)
+            .follows(is_root(self.packages, index), dependency.kind)
         {
             return None;
         }
-        if !traversal.holds_by(side, dependency).contains(self.at) {
+        if !traversal
+            .condition_targets(side, dependency)
+            .contains(self.at)
+        {
             return None;
         }
         let is_macro = self.packages[dependency.to].is_macro;

@@ -5,7 +5,8 @@ ghost use Rattle.known_targets.specs.Sets.{is_member};
 ghost use Rattle.package_graphs.specs.Graphs.{edge_lists};
 ghost use Rattle.package_graphs.specs.Kinds.{is_followed};
 ghost use Rattle.package_graphs.specs.Packages.{node_of, side};
-ghost use Rattle.package_graphs.specs.Inside.Numbered.{holds_by, edge_of, edges_on, numbered, AreFirst, IsTraversalQuery};
+ghost use Rattle.package_graphs.specs.Inside.Numbered.{condition_targets, edge_of, edges_on, numbered};
+ghost use Rattle.package_graphs.specs.Inside.Numbered.{AreFirst, IsTraversalQuery};
 
 use crate::graph::{Edge, Graph};
 use crate::packages::{Dependency, Kinds, Package};
@@ -50,10 +51,10 @@ impl TraversalQuery {
         }
     }
 
-    /// Returns the targets on which a dependency is followed by its condition: all or none, if it is decided for the
-    /// host.
-    pub fn holds_by(&self, from: Side, dependency: &Dependency) -> TargetSet
-        ensures { result ≡ holds_by self.now.host self.now.always self.now.never from dependency.now }
+    /// Returns the targets on which the condition of a dependency is true. If it is decided for the host, these are all
+    /// targets or none.
+    pub fn condition_targets(&self, from: Side, dependency: &Dependency) -> TargetSet
+        ensures { result ≡ condition_targets self.now.host self.now.always self.now.never from dependency.now }
     {
         match self.host {
             None => dependency.holds,
@@ -78,7 +79,7 @@ impl TraversalQuery {
         let side = from.after(dependency.kind, is_macro);
         Edge {
             to: node_of(dependency.to, side),
-            holds: self.holds_by(from, dependency),
+            holds: self.condition_targets(from, dependency),
         }
     }
 
@@ -95,7 +96,7 @@ impl TraversalQuery {
         let mut edges = Vec::new(alloc);
         'dependencies: for dependency in &unit.dependencies {
             let is_there = dependency.to < packages.len();
-            if is_there && self.kinds.follow(unit.is_root, dependency.kind) {
+            if is_there && self.kinds.follows(unit.is_root, dependency.kind) {
                 edges.push(self.edge_of(packages, from, dependency))?;
             }
         }

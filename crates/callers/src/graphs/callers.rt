@@ -26,5 +26,5 @@ pub fn is_never_built(
         dev: false,
     };
     let sets = package_targets(alloc, packages, kinds, Some(host))?;
-    Ok(sets.at(index).is_empty())
+    Ok(sets.on_any_side(index).is_empty())
 }

@@ -56,10 +56,10 @@ fn sets(rt: &impl Abort, alloc: Global, host: Option<KnownTarget>) -> PackageTar
 fn without_a_host_the_target_decides(rt: HostRuntime) {
     let alloc = rt.alloc();
     let sets = sets(&rt, alloc, None);
-    assert_at(&rt, alloc, sets.at(0), "cfg(all())");
-    assert_at(&rt, alloc, sets.at(1), "cfg(windows)");
-    assert_at(&rt, alloc, sets.at(2), "cfg(unix)");
-    assert_at(&rt, alloc, sets.at(3), "cfg(any())");
+    assert_at(&rt, alloc, sets.on_any_side(0), "cfg(all())");
+    assert_at(&rt, alloc, sets.on_any_side(1), "cfg(windows)");
+    assert_at(&rt, alloc, sets.on_any_side(2), "cfg(unix)");
+    assert_at(&rt, alloc, sets.on_any_side(3), "cfg(any())");
 }
 
 #[test]
@@ -67,9 +67,9 @@ fn a_host_is_asked_for_its_own(rt: HostRuntime) {
     let alloc = rt.alloc();
     let linux = Some(target(&rt, "x86_64-unknown-linux-gnu"));
     let sets = sets(&rt, alloc, linux);
-    assert_at(&rt, alloc, sets.at(1), "cfg(windows)");
-    assert_at(&rt, alloc, sets.at(2), "cfg(all())");
-    assert_at(&rt, alloc, sets.at(3), "cfg(windows)");
+    assert_at(&rt, alloc, sets.on_any_side(1), "cfg(windows)");
+    assert_at(&rt, alloc, sets.on_any_side(2), "cfg(all())");
+    assert_at(&rt, alloc, sets.on_any_side(3), "cfg(windows)");
 }
 
 #[test]
@@ -77,7 +77,7 @@ fn another_host_needs_less(rt: HostRuntime) {
     let alloc = rt.alloc();
     let windows = Some(target(&rt, "x86_64-pc-windows-msvc"));
     let sets = sets(&rt, alloc, windows);
-    assert_at(&rt, alloc, sets.at(1), "cfg(windows)");
-    assert_at(&rt, alloc, sets.at(2), "cfg(any())");
-    assert_at(&rt, alloc, sets.at(3), "cfg(any())");
+    assert_at(&rt, alloc, sets.on_any_side(1), "cfg(windows)");
+    assert_at(&rt, alloc, sets.on_any_side(2), "cfg(any())");
+    assert_at(&rt, alloc, sets.on_any_side(3), "cfg(any())");
 }

@@ -21,15 +21,15 @@ pub record IsTraversalQuery (q : TraversalQuery) : Type 0 where
   pub none : (k : ℕ) → k < COUNT → is_member q.never k ≡ false
 
 -- the targets of a dependency: all or none, if it is decided for the host
-abbrev pub holds_by : Option KnownTarget → TargetSet → TargetSet → Side → Dependency → TargetSet
-holds_by None always never from d = d.holds
-holds_by (Some host) always never from d =
+abbrev pub condition_targets : Option KnownTarget → TargetSet → TargetSet → Side → Dependency → TargetSet
+condition_targets None always never from d = d.holds
+condition_targets (Some host) always never from d =
     cond (is_of_host from d.kind) (cond (is_member d.holds (place host)) always never) d.holds
 
 abbrev pub edge_of : TraversalQuery → List Package → Side → Dependency → Edge
 edge_of q packages from d = record {
   to = node_of d.to (side_after from d.kind (is_macro packages d.to));
-  holds = holds_by q.host q.always q.never from d;
+  holds = condition_targets q.host q.always q.never from d;
 }
 
 -- the edge of a dependency that is followed to a package

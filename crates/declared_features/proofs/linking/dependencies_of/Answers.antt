@@ -17,7 +17,8 @@ use Rattle.declared_features.proofs.Matching.{matches_none, matches_as, matches_
 use Rattle.declared_features.proofs.Describing.{link_first, link_more, link_before, link_here, link_row, row_link}
 use Rattle.declared_features.proofs.Placing.{element_at}
 use Rattle.declared_features.proofs.linking.dependencies_of.Goals as goal
-use Rattle.declared_features.proofs.linking.dependencies_of.Goals.{then-is_of+in_ok-named+in_ok-push, else-is_of}
+use Rattle.declared_features.proofs.linking.dependencies_of.Goals.{then-is_declared_as+in_ok-named+in_ok-push}
+use Rattle.declared_features.proofs.linking.dependencies_of.Goals.{else-is_declared_as}
 
 pub rows-init : goal.rows-init
 rows-init c =
@@ -56,11 +57,11 @@ declared-preserved c =
     slice_get_read rows.items (length rows.items) i row refl row_below c.index-row.ensures in
     let d_at : slice_get ds.items j ≡ Some d =
     slice_get_read ds.items (length ds.items) j d refl d_below c.index-declared.ensures in
-    elim c.if-is_of.branch [
-      | then-is_of+in_ok-named+in_ok-push w ↦
-          let belongs = c.is_of.ensures.0 w.if-is_of.true in
+    elim c.if-is_declared_as.branch [
+      | then-is_declared_as+in_ok-named+in_ok-push w ↦
+          let belongs = c.is_declared_as.ensures.0 w.if-is_declared_as.true in
           matches_as (λ link. IsLinkBelow graph node rows.items i ds.items j link ⊎ ((row, d) ≡ link))
-          (IsLinkBelow graph node rows.items i ds.items (j + 1)) R c.if-is_of.found.items
+          (IsLinkBelow graph node rows.items i ds.items (j + 1)) R c.if-is_declared_as.found.items
           (λ link h.
           elim h [
             | inl before ↦ link_before graph node rows.items i ds.items j d d_at link before
@@ -71,10 +72,11 @@ declared-preserved c =
             | inl before ↦ inl before
             | inr here ↦ inr here.0
           ])
-          (matches_more (IsLinkBelow graph node rows.items i ds.items j) R c.declared.found.items c.if-is_of.found.items
-          (row, d) w.in_ok-named.named (ap items w.found-is ∙ w.in_ok-push.ensures.items) w.in_ok-named.ensures
+          (matches_more (IsLinkBelow graph node rows.items i ds.items j) R c.declared.found.items
+          c.if-is_declared_as.found.items (row, d) w.in_ok-named.named
+          (ap items w.found-is ∙ w.in_ok-push.ensures.items) w.in_ok-named.ensures
           c.declared.invariant)
-      | else-is_of w ↦
+      | else-is_declared_as w ↦
           subst (λ (found : Vec Named Global). MatchesJust (IsLinkBelow graph node rows.items i ds.items
           (j + 1)) R found.items)
           (sym w.found-is)
@@ -84,7 +86,8 @@ declared-preserved c =
           (λ link h.
           elim (link_more graph node rows.items i row ds.items j d row_at d_at link h) [
             | inl before ↦ before
-            | inr here ↦ absurd (let yes = c.is_of.ensures.1 here.1 in let no = w.if-is_of.false in cc)
+            | inr here ↦
+                absurd (let yes = c.is_declared_as.ensures.1 here.1 in let no = w.if-is_declared_as.false in cc)
           ])
           c.declared.invariant)
     ]
@@ -111,7 +114,7 @@ returns-in_default c =
     let node = c.args.node in
     let rows = c.in_ok-rows.rows.items in
     let none : manifest_at graph.declared.now node ≡ None =
-    sym c.manifest.ensures ∙ ap (λ (o : Option (Bor PackageDeclaration)). option_copied o) c.in_default.is in
+    sym c.package_of.ensures ∙ ap (λ (o : Option (Bor PackageDeclaration)). option_copied o) c.in_default.is in
     record {
       rows = rows;
       rows_are = c.in_ok-rows.ensures;

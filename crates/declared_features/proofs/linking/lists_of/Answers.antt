@@ -16,7 +16,7 @@ returns-clause-lists c =
     lists_grown IsMember (features_at c.args.graph.now.declared.now lists.node) c.in_ok-features.features.items
     c.push.new.self.items (c.in_ok-members.members ∷ []) c.in_ok-push.ensures.items
     (subst (λ (o : Option PackageDeclaration). HasListsOf IsMember (features_in o) c.in_ok-features.features.items)
-    c.manifest.ensures c.in_ok-features.ensures.lists)
+    c.package_of.ensures c.in_ok-features.ensures.lists)
 
 pub returns-clause-last : goal.returns-clause-last
 returns-clause-last c =
@@ -28,7 +28,7 @@ returns-clause-last c =
     let count : ℕ = length (features_at graph.declared.now lists.node) in
     let same : length features.items ≡ count =
     c.in_ok-features.ensures.count ∙ ap (λ (o : Option PackageDeclaration). length (features_in o))
-    c.manifest.ensures in
+    c.package_of.ensures in
     let Requested : List ℕ → ℕ → List FeatureValue → Type 0 =
     λ name n ms. AreRequested requested name (index_in lists.names.now) lists.node lists.found.now n ms in
     last_pushed (is_concerned requested lists.node c.args.unit.now) (Requested (name_at graph lists.node) count) count

@@ -9,15 +9,15 @@ use Rattle.declared_features.proofs.First.{none_next, none_end}
 use Rattle.declared_features.proofs.EdgeKeys.{edge_of_row, row_of_edge, edge_moves}
 use Rattle.declared_features.proofs.missing_edges.has_edge.Goals as goal
 
-pub returns-then-is_of : goal.returns-then-is_of
-returns-then-is_of c =
+pub returns-then-is_declared_as : goal.returns-then-is_declared_as
+returns-then-is_declared_as c =
     let rows = c.in_ok-rows.rows in
     let below : c.rows.i < length rows.items = omega (arith, c.rows-test.true, c.len-i-end.ensures, rows.ok.0) in
     let has : HasEdge c.args.graph.now c.args.node c.args.declared.now = record {
       row = c.index.result.now;
       there = edge_of_row c.args.graph.now c.args.node rows.items c.rows.i c.index.result.now c.in_ok-rows.ensures below
           c.index.ensures;
-      belongs = c.is_of.ensures.0 c.if-is_of.true;
+      belongs = c.is_declared_as.ensures.0 c.if-is_declared_as.true;
     } in
     (λ h. has, λ h. refl)
 
@@ -26,7 +26,8 @@ rows-preserved c =
     let rows = c.in_ok-rows.rows in
     let below : c.rows.i < length rows.items = omega (arith, c.rows-test.true, c.len-i-end.ensures, rows.ok.0) in
     none_next (λ row. IsOf c.args.graph.now c.args.node row c.args.declared.now) rows.items c.rows.i c.index.result.now
-    below c.index.ensures (λ is. let yes = c.is_of.ensures.1 is in let no = c.if-is_of.false in cc) c.rows.invariant
+    below c.index.ensures (λ is. let yes = c.is_declared_as.ensures.1 is in let no = c.if-is_declared_as.false in cc)
+    c.rows.invariant
 
 pub returns : goal.returns
 returns c =

@@ -14,7 +14,7 @@ nodes-preserved c =
     let these : (q : List ℕ) → index_at c.in_ok-indexes.indexes q ≡ feature_index (features_at d c.nodes.node) q =
     λ q.
     c.in_ok-indexes.ensures q ∙ ap (λ (o : Option PackageDeclaration). feature_index (features_in o) q)
-    c.manifest.ensures in
+    c.package_of.ensures in
     names_more d c.nodes.node c.nodes.features c.push.new.self c.in_ok-indexes.indexes c.in_ok-push.ensures.items these
     c.nodes.invariant
 

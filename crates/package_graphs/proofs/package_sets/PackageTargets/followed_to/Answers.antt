@@ -6,7 +6,7 @@ use Rattle.package_graphs.specs.Packages.{is_macro}
 use Rattle.package_graphs.specs.declared.sides.Side.{Side}
 use Rattle.package_graphs.specs.declared.sides.Side.TheVariants.{Target, Host}
 use Rattle.package_graphs.proofs.Followed.{leads_with, to_either, from_to}
-use Rattle.package_graphs.proofs.package_sets.PackageTargets.following_to.Goals as goal
+use Rattle.package_graphs.proofs.package_sets.PackageTargets.followed_to.Goals as goal
 
 pub returns : goal.returns
 returns c k below =
@@ -28,7 +28,7 @@ returns c k below =
     c.new-traversal.ensures.host in
     let followed =
     ap (λ (root : Bool). is_followed query.kinds root d.kind) (sym c.is_root.ensures)
-    ∙ sym c.follow.ensures ∙ c.if-not-follow.false in (
+    ∙ sym c.follows.ensures ∙ c.if-not-follows.false in (
       λ h. to_either sets packages query.kinds query.host c.args.from d c.args.to k followed (sym e ∙ h),
       λ h. e ∙ from_to sets packages query.kinds query.host c.args.from d c.args.to k h,
     )

@@ -3,7 +3,7 @@ use Rattle.known_targets.specs.Sets.{is_member}
 use Rattle.package_graphs.specs.declared.sides.Side.{Side}
 use Rattle.package_graphs.specs.declared.sides.Side.TheVariants.{Target, Host}
 use Rattle.cargo_features.proofs.Using.{got, uses_from, to_using, from_using}
-use Rattle.cargo_features.proofs.resolved.Resolved.using_to.Goals as goal
+use Rattle.cargo_features.proofs.resolved.Resolved.dependency_targets_to.Goals as goal
 
 pub returns : goal.returns
 returns c numbers k below =
@@ -21,11 +21,12 @@ returns c numbers k below =
     λ from. uses_from r p c.args.place c.args.to k unit there d declared from in
     let e : is_member c.union.result k ≡ (by Target || by Host) =
     c.union.ensures k below
-    ∙ ap (λ (b : Bool). b || is_member c.using_along.result k) (c.using_along-target.ensures numbers k below)
-    ∙ ap (λ (b : Bool). by Target || b) (c.using_along.ensures numbers k below) in (
+    ∙ ap (λ (b : Bool). b || is_member c.dependency_targets_along.result k)
+    (c.dependency_targets_along-target.ensures numbers k below)
+    ∙ ap (λ (b : Bool). by Target || b) (c.dependency_targets_along.ensures numbers k below) in (
       λ h.
           to_using r p c.args.place c.args.to k unit there d declared
-          (sym c.follow.ensures ∙ c.if-not-follow.false) (sym e ∙ h),
+          (sym c.follows.ensures ∙ c.if-not-follows.false) (sym e ∙ h),
       λ h.
           e ∙ from_using r p c.args.place c.args.to k unit there d declared h,
     )

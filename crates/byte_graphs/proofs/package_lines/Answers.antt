@@ -1,7 +1,7 @@
 use Rattle.std.proofs.Common.{subst}
 use Rattle.byte_graphs.specs.Documents.{IsUnusable}
 use Rattle.byte_graphs.specs.Inside.Answering.{IsAnswer}
-use Rattle.byte_graphs.proofs.graph.Goals as goal
+use Rattle.byte_graphs.proofs.package_lines.Goals as goal
 
 pub returns-in-Ok-Reason-clause-refused : goal.returns-in-Ok-Reason-clause-refused
 returns-in-Ok-Reason-clause-refused c =
