@@ -21,7 +21,7 @@ use crate::reading::read_condition;
 use cargo_platform::{CfgExpr, Platform};
 use exact_answers::{
     FactConstraints, ONE_VALUED, PossibleTarget, Satisfiability, Validity, can_hold_platform,
-    equivalent_platform, exclude_platform, family_rule, implies_platform,
+    equivalent_platform, excludes_platform, family_rule, implies_platform,
 };
 use std::alloc::{AllocError, Global};
 
@@ -91,7 +91,7 @@ fn ask<'a>(
     match relation {
         Relation::Implies => implies_platform(alloc, a, b, known, budget),
         Relation::Equivalent => equivalent_platform(alloc, a, b, known, budget),
-        Relation::Excludes => exclude_platform(alloc, a, b, known, budget),
+        Relation::Excludes => excludes_platform(alloc, a, b, known, budget),
     }
 }
 

@@ -7,7 +7,7 @@ use crate::printing::format_example;
 use crate::work::{Keys, split_budget};
 use cargo_platform::{CfgExpr, Platform};
 use exact_answers::{
-    FactConstraints, ONE_VALUED, PossibleTarget, Validity, exclude_platform, family_rule,
+    FactConstraints, ONE_VALUED, PossibleTarget, Validity, excludes_platform, family_rule,
     implies_platform,
 };
 use known_targets::{COUNT, TargetSet, matching};
@@ -213,7 +213,7 @@ fn found_everywhere<'a>(
     Ok(ExactRelations {
         implies: tidy(implies_platform(alloc, a, b, known, splits)?)?,
         implied_by: tidy(implies_platform(alloc, b, a, known, splits)?)?,
-        excludes: tidy(exclude_platform(alloc, a, b, known, splits)?)?,
+        excludes: tidy(excludes_platform(alloc, a, b, known, splits)?)?,
     })
 }
 

@@ -5,8 +5,8 @@ use crate::row_facts;
 use cargo_platform::{Cfg, CfgExpr, Platform};
 use exact_answers::{
     CanHold, FactConstraints, MustHold, ONE_VALUED, PossibleTarget, Satisfiability, Validity,
-    always, always_platform, can_hold, can_hold_platform, equivalent, equivalent_platform, exclude,
-    exclude_platform, family_rule, has_possible_facts, implies, implies_platform,
+    always, always_platform, can_hold, can_hold_platform, equivalent, equivalent_platform, excludes,
+    excludes_platform, family_rule, has_possible_facts, implies, implies_platform,
 };
 use std::alloc::{AllocError, Global};
 use test_rows::Fault;
@@ -180,7 +180,7 @@ fn of_facts(
         "met" => Ok(example(has_possible_facts(alloc, known, budget)?)),
         "always" => Ok(counterexample(always(alloc, a, known, budget)?)),
         "implies" => Ok(counterexample(implies(alloc, a, b, known, budget)?)),
-        "exclude" => Ok(counterexample(exclude(alloc, a, b, known, budget)?)),
+        "exclude" => Ok(counterexample(excludes(alloc, a, b, known, budget)?)),
         _ => Ok(counterexample(equivalent(alloc, a, b, known, budget)?)),
     }
 }
@@ -221,7 +221,7 @@ fn of_targets(
         }
         "always" => always_platform(alloc, a, known, 1000)?,
         "implies" => implies_platform(alloc, a, b, known, 1000)?,
-        "exclude" => exclude_platform(alloc, a, b, known, 1000)?,
+        "exclude" => excludes_platform(alloc, a, b, known, 1000)?,
         _ => equivalent_platform(alloc, a, b, known, 1000)?,
     };
     match answer {
