@@ -1,7 +1,7 @@
 //! Rows on the callers of the crate `callers`.
 
 use crate::asked;
-use callers::conditions::audit::{canonical, is_one_key, note, note_hashed};
+use callers::conditions::audit::{canonical, is_one_key, record_licence, record_licence_hashed};
 use callers::conditions::describe::describe;
 use callers::conditions::fixed_key::is_unix;
 use callers::conditions::limited::read_within;
@@ -173,12 +173,12 @@ impl Licences {
     }
 
     fn note(&mut self, alloc: Global, key: &str, licence: &str) -> Result<(), Fault> {
-        note(
+        record_licence(
             &mut self.sorted,
             platform(alloc, key)?,
             word(alloc, licence)?,
         )?;
-        note_hashed(
+        record_licence_hashed(
             &mut self.hashed,
             platform(alloc, key)?,
             word(alloc, licence)?,
