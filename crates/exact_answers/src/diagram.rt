@@ -120,7 +120,7 @@ fn tried<'a>(
     }
 }
 
-/// Returns the end of a search for the goals, if a diagram decides it. `pairs` are the pairs in the goals.
+/// Returns the result of a search for the goals, if a diagram decides it. `pairs` are the pairs in the goals.
 pub fn search_by_diagram<'a>(
     alloc: Global,
     goals: &[Goal<'a>],

@@ -441,7 +441,7 @@ fn one_value<K: Knowledge>(
     table.join(false, others, without)
 }
 
-/// Returns the place of the sets in which no key among these has two open values.
+/// Returns the place of the sets of facts in which no key in `single` has two open values.
 pub fn at_most_one_value<K: Knowledge>(
     query: &Query<'_, '_, K>,
     table: &mut Table,
