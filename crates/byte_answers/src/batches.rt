@@ -128,7 +128,7 @@ pub fn match_keys(alloc: Global, keys: &[u8], name: &[u8], lines: &[u8], out: &m
     };
     match answers_on(alloc, keys, name, &facts) {
         Ok(Some(answers)) => Outcome::done(write(&answers, out)),
-        Ok(None) => Outcome::ended(NOT_FLAT, 0),
-        Err(_) => Outcome::ended(NO_MEMORY, 0),
+        Ok(None) => Outcome::without_answer(NOT_FLAT, 0),
+        Err(_) => Outcome::without_answer(NO_MEMORY, 0),
     }
 }

@@ -46,7 +46,7 @@ pub fn canonical(alloc: Global, key: &[u8], out: &mut [u8]) -> Outcome
     match read_condition(alloc, 0, key, out) {
         Ok(platform) => match platform.to_string(alloc) {
             Ok(text) => Outcome::done(write(text.as_bytes(), out)),
-            Err(_) => Outcome::ended(NO_MEMORY, 0),
+            Err(_) => Outcome::without_answer(NO_MEMORY, 0),
         },
         Err(outcome) => outcome,
     }
@@ -79,7 +79,7 @@ pub fn flatten_key(alloc: Global, key: &[u8], out: &mut [u8]) -> Outcome
     match read_condition(alloc, 0, key, out) {
         Ok(platform) => match flatten(alloc, &platform) {
             Ok(bytes) => Outcome::done(write(&bytes, out)),
-            Err(_) => Outcome::ended(NO_MEMORY, 0),
+            Err(_) => Outcome::without_answer(NO_MEMORY, 0),
         },
         Err(outcome) => outcome,
     }
@@ -99,7 +99,7 @@ fn shown(alloc: Global, error: &ParseError, key: &str, out: &mut [u8]) -> Outcom
     let needed = match error.snippet_in(alloc, key) {
         Ok(Some(snippet)) => write(snippet.as_bytes(), out),
         Ok(None) => write(&[], out),
-        Err(_) => return Outcome::ended(NO_MEMORY, 0),
+        Err(_) => return Outcome::without_answer(NO_MEMORY, 0),
     };
     Outcome {
         code: REFUSED,
@@ -112,11 +112,11 @@ fn shown(alloc: Global, error: &ParseError, key: &str, out: &mut [u8]) -> Outcom
     }
 }
 
-/// Shows the error of a rejected key: writes two lines, the key, and carets under the error with what is wrong there.
+/// Shows the error of a rejected key: writes two lines: the key, and carets under the error with the reason.
 ///
 /// Returns `REFUSED` if the key is not a condition, with the span of the error in the key, in bytes, and `DONE` with no
 /// bytes if it is one. `canonical` writes the message of the error.
-pub fn fault(alloc: Global, key: &[u8], out: &mut [u8]) -> Outcome
+pub fn fault_snippet(alloc: Global, key: &[u8], out: &mut [u8]) -> Outcome
     // `DONE` is returned only for a key that is a condition.
     ensures done { result.code ≡ DONE → (p : Condition) × IsConditionText key.now p }
     // `REFUSED` is returned only for a key that is not a condition, with the snippet and the span of the error in the
@@ -142,11 +142,11 @@ pub fn fault(alloc: Global, key: &[u8], out: &mut [u8]) -> Outcome
         Err(outcome) => return outcome,
     };
     if is_too_deep(key) {
-        return Outcome::ended(TOO_DEEP, 0);
+        return Outcome::without_answer(TOO_DEEP, 0);
     }
     match Platform::from_str(alloc, key) {
         Ok(_) => Outcome::done(0),
         Err(ReadError::Parse(error)) => shown(alloc, &error, key, out),
-        Err(ReadError::Memory(_)) => Outcome::ended(NO_MEMORY, 0),
+        Err(ReadError::Memory(_)) => Outcome::without_answer(NO_MEMORY, 0),
     }
 }

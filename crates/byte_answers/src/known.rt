@@ -24,7 +24,12 @@ use std::alloc::{AllocError, Global};
 /// Sets `words` to the known targets on which a key is true: bit `k % 64` of word `k / 64` is the target at index `k`.
 ///
 /// Rejects the same keys as `canonical`, with the same codes, and then leaves the words unchanged.
-pub fn targets(alloc: Global, key: &[u8], words: &mut [u64; SET_WORDS], out: &mut [u8]) -> Outcome
+pub fn matching_targets(
+    alloc: Global,
+    key: &[u8],
+    words: &mut [u64; SET_WORDS],
+    out: &mut [u8],
+) -> Outcome
     // `DONE` is returned with exactly the known targets on which the key's condition is true.
     ensures done { result.code ≡ DONE → AreTargets key.now words.new }
     // `REFUSED` is returned only for a key that is not a condition, with the message and the span of the error in the
@@ -53,7 +58,7 @@ pub fn targets(alloc: Global, key: &[u8], words: &mut [u64; SET_WORDS], out: &mu
                 *words = set.words();
                 Outcome::done(0)
             }
-            Err(_) => Outcome::ended(NO_MEMORY, 0),
+            Err(_) => Outcome::without_answer(NO_MEMORY, 0),
         },
         Err(outcome) => outcome,
     }
@@ -80,7 +85,7 @@ pub fn target_name(place: usize, out: &mut [u8]) -> Outcome
     if place < names.len() {
         Outcome::done(write(names[place].as_bytes(), out))
     } else {
-        Outcome::ended(UNKNOWN_TARGET, 0)
+        Outcome::without_answer(UNKNOWN_TARGET, 0)
     }
 }
 
@@ -119,10 +124,10 @@ pub fn facts(alloc: Global, name: &[u8], out: &mut [u8]) -> Outcome
         Err(outcome) => return outcome,
     };
     let Some(target) = KnownTarget::by_name(name) else {
-        return Outcome::ended(UNKNOWN_TARGET, 0);
+        return Outcome::without_answer(UNKNOWN_TARGET, 0);
     };
     match facts_text(alloc, target) {
         Ok(text) => Outcome::done(write(text.as_bytes(), out)),
-        Err(_) => Outcome::ended(NO_MEMORY, 0),
+        Err(_) => Outcome::without_answer(NO_MEMORY, 0),
     }
 }

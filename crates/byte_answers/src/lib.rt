@@ -26,8 +26,8 @@ mod unflat;
 
 pub use batches::match_keys;
 pub use depth::{MAX_FLAT_BYTES, MAX_OPEN, is_too_deep};
-pub use keys::{canonical, fault, flatten_key};
-pub use known::{facts, target_name, targets};
+pub use keys::{canonical, fault_snippet, flatten_key};
+pub use known::{facts, matching_targets, target_name};
 pub use matching::matches;
 pub use outcome::{
     DONE, NO_MEMORY, NOT_FLAT, NOT_UTF8, Outcome, REFUSED, TOO_DEEP, UNDECIDED, UNKNOWN_TARGET,

@@ -50,7 +50,7 @@ pub(crate) fn refused_facts(
     ensures codes { IsTrue (result.code == REFUSED || result.code == NO_MEMORY) }
 {
     if let FactsError::Memory(_) = error {
-        return Outcome::ended(NO_MEMORY, argument);
+        return Outcome::without_answer(NO_MEMORY, argument);
     }
     let span = span_in_lines(error, lines);
     match error.to_string(alloc) {
@@ -63,7 +63,7 @@ pub(crate) fn refused_facts(
             start: span.start,
             end: span.end,
         },
-        Err(_) => Outcome::ended(NO_MEMORY, argument),
+        Err(_) => Outcome::without_answer(NO_MEMORY, argument),
     }
 }
 
@@ -117,7 +117,7 @@ fn match_lines(
     match fact_texts(alloc, lines) {
         Ok(Some(facts)) => Outcome::answered(is_true_on(platform, name, &facts)),
         Ok(None) => match_copies(alloc, platform, name, lines, out),
-        Err(_) => Outcome::ended(NO_MEMORY, LINES),
+        Err(_) => Outcome::without_answer(NO_MEMORY, LINES),
     }
 }
 

@@ -42,7 +42,7 @@ pub struct Outcome {
 
 impl Outcome {
     /// Returns the outcome of a call without an answer, because of the text at index `argument`.
-    pub fn ended(code: u32, argument: u32) -> Outcome
+    pub fn without_answer(code: u32, argument: u32) -> Outcome
         // It has this code and this `argument`, and nothing else.
         ensures { result ≡ record {
           code = code;

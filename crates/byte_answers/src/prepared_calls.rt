@@ -45,7 +45,7 @@ pub fn prepare_facts(alloc: Global, lines: &[u8], out: &mut [u8]) -> Outcome
     match read_facts(alloc, text) {
         Ok(facts) => match prepare(alloc, &facts) {
             Ok(bytes) => Outcome::done(write(&bytes, out)),
-            Err(_) => Outcome::ended(NO_MEMORY, 0),
+            Err(_) => Outcome::without_answer(NO_MEMORY, 0),
         },
         Err(error) => refused_facts(alloc, 0, &error, text, out),
     }
@@ -80,11 +80,11 @@ pub fn prepared_matches(alloc: Global, flat: &[u8], name: &[u8], prepared: &[u8]
     ensures codes { IsTrue (ends_prepared_call result.code) }
 {
     let Some(facts) = open(prepared) else {
-        return Outcome::ended(NOT_FLAT, 2);
+        return Outcome::without_answer(NOT_FLAT, 2);
     };
     match is_true(alloc, flat, name, facts) {
         Ok(Some(holds)) => Outcome::answered(holds),
-        Ok(None) => Outcome::ended(NOT_FLAT, 0),
-        Err(_) => Outcome::ended(NO_MEMORY, 0),
+        Ok(None) => Outcome::without_answer(NOT_FLAT, 0),
+        Err(_) => Outcome::without_answer(NO_MEMORY, 0),
     }
 }

@@ -31,7 +31,7 @@ pub(crate) fn read_text(argument: u32, bytes: &[u8]) -> Result<&str, Outcome>
 {
     match str::from_utf8(bytes) {
         Ok(text) => Ok(text),
-        Err(_) => Err(Outcome::ended(NOT_UTF8, argument)),
+        Err(_) => Err(Outcome::without_answer(NOT_UTF8, argument)),
     }
 }
 
@@ -70,7 +70,7 @@ fn refused(alloc: Global, argument: u32, error: &ParseError, key: &str, out: &mu
             start: span.start,
             end: span.end,
         },
-        Err(_) => Outcome::ended(NO_MEMORY, argument),
+        Err(_) => Outcome::without_answer(NO_MEMORY, argument),
     }
 }
 
@@ -98,11 +98,11 @@ pub(crate) fn read_condition(
 {
     let key = read_text(argument, key)?;
     if is_too_deep(key) {
-        return Err(Outcome::ended(TOO_DEEP, argument));
+        return Err(Outcome::without_answer(TOO_DEEP, argument));
     }
     match Platform::from_str(alloc, key) {
         Ok(platform) => Ok(platform),
         Err(ReadError::Parse(error)) => Err(refused(alloc, argument, &error, key, out)),
-        Err(ReadError::Memory(_)) => Err(Outcome::ended(NO_MEMORY, argument)),
+        Err(ReadError::Memory(_)) => Err(Outcome::without_answer(NO_MEMORY, argument)),
     }
 }

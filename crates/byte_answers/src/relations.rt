@@ -21,7 +21,7 @@ use crate::reading::read_condition;
 use cargo_platform::{CfgExpr, Platform};
 use exact_answers::{
     FactConstraints, ONE_VALUED, PossibleTarget, Satisfiability, Validity, can_hold_platform,
-    equivalent_platform, exclude_platform, family_rule, implies_platform,
+    equivalent_platform, excludes_platform, family_rule, implies_platform,
 };
 use std::alloc::{AllocError, Global};
 
@@ -69,7 +69,7 @@ fn with_example(alloc: Global, holds: bool, target: &PossibleTarget, out: &mut [
             start: 0,
             end: 0,
         },
-        Err(_) => Outcome::ended(NO_MEMORY, 0),
+        Err(_) => Outcome::without_answer(NO_MEMORY, 0),
     }
 }
 
@@ -91,7 +91,7 @@ fn ask<'a>(
     match relation {
         Relation::Implies => implies_platform(alloc, a, b, known, budget),
         Relation::Equivalent => equivalent_platform(alloc, a, b, known, budget),
-        Relation::Excludes => exclude_platform(alloc, a, b, known, budget),
+        Relation::Excludes => excludes_platform(alloc, a, b, known, budget),
     }
 }
 
@@ -125,8 +125,8 @@ fn related_by<'a>(
     match ask(alloc, relation, a, b, known, budget) {
         Ok(Validity::Yes) => Outcome::answered(true),
         Ok(Validity::No(target)) => with_example(alloc, false, &target, out),
-        Ok(Validity::Undecided) => Outcome::ended(UNDECIDED, 0),
-        Err(_) => Outcome::ended(NO_MEMORY, 0),
+        Ok(Validity::Undecided) => Outcome::without_answer(UNDECIDED, 0),
+        Err(_) => Outcome::without_answer(NO_MEMORY, 0),
     }
 }
 
@@ -152,7 +152,7 @@ fn related(
 {
     let rule = match family_rule(alloc) {
         Ok(rule) => rule,
-        Err(_) => return Outcome::ended(NO_MEMORY, 0),
+        Err(_) => return Outcome::without_answer(NO_MEMORY, 0),
     };
     let known = rules_alone(&rule);
     related_by(alloc, relation, a, b, &known, budget, out)
@@ -258,8 +258,8 @@ fn possible_by<'a>(
     match can_hold_platform(alloc, platform, known, budget) {
         Ok(Satisfiability::Yes(target)) => with_example(alloc, true, &target, out),
         Ok(Satisfiability::No) => Outcome::answered(false),
-        Ok(Satisfiability::Undecided) => Outcome::ended(UNDECIDED, 0),
-        Err(_) => Outcome::ended(NO_MEMORY, 0),
+        Ok(Satisfiability::Undecided) => Outcome::without_answer(UNDECIDED, 0),
+        Err(_) => Outcome::without_answer(NO_MEMORY, 0),
     }
 }
 
@@ -277,7 +277,7 @@ fn possible(alloc: Global, platform: &Platform, budget: u64, out: &mut [u8]) -> 
 {
     let rule = match family_rule(alloc) {
         Ok(rule) => rule,
-        Err(_) => return Outcome::ended(NO_MEMORY, 0),
+        Err(_) => return Outcome::without_answer(NO_MEMORY, 0),
     };
     let known = rules_alone(&rule);
     possible_by(alloc, platform, &known, budget, out)

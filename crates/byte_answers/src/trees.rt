@@ -28,12 +28,12 @@ fn read_flat(alloc: Global, flat: &[u8]) -> Result<Platform, Outcome>
         (λ o. IsTrue (o.code == TOO_DEEP || o.code == NOT_FLAT || o.code == NO_MEMORY)) }
 {
     if MAX_FLAT_BYTES < flat.len() {
-        return Err(Outcome::ended(TOO_DEEP, 0));
+        return Err(Outcome::without_answer(TOO_DEEP, 0));
     }
     match unflat(alloc, flat) {
         Ok(Some(platform)) => Ok(platform),
-        Ok(None) => Err(Outcome::ended(NOT_FLAT, 0)),
-        Err(_) => Err(Outcome::ended(NO_MEMORY, 0)),
+        Ok(None) => Err(Outcome::without_answer(NOT_FLAT, 0)),
+        Err(_) => Err(Outcome::without_answer(NO_MEMORY, 0)),
     }
 }
 
@@ -61,7 +61,7 @@ pub fn flat_print(alloc: Global, flat: &[u8], out: &mut [u8]) -> Outcome
     match read_flat(alloc, flat) {
         Ok(platform) => match platform.to_string(alloc) {
             Ok(text) => Outcome::done(write(text.as_bytes(), out)),
-            Err(_) => Outcome::ended(NO_MEMORY, 0),
+            Err(_) => Outcome::without_answer(NO_MEMORY, 0),
         },
         Err(outcome) => outcome,
     }
@@ -110,7 +110,7 @@ pub fn flat_matches(alloc: Global, flat: &[u8], name: &[u8], flat_facts: &[u8]) 
     };
     match unflat_facts(alloc, flat_facts) {
         Ok(Some(facts)) => Outcome::answered(platform.matches(name, &facts)),
-        Ok(None) => Outcome::ended(NOT_FLAT, 2),
-        Err(_) => Outcome::ended(NO_MEMORY, 0),
+        Ok(None) => Outcome::without_answer(NOT_FLAT, 2),
+        Err(_) => Outcome::without_answer(NO_MEMORY, 0),
     }
 }

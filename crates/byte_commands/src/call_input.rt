@@ -15,21 +15,21 @@ const STDIN_PATH: &str = "-";
 /// The name of the program, which the first argument is.
 const PROGRAM: &str = "manifest_check";
 
-/// A part of what a caller hands over.
+/// Which buffer of a call is meant.
 #[derive(Clone, Copy, Drop)]
-pub enum Buffer {
+pub enum InputPart {
     Arguments,
     Files,
 }
 
-impl Buffer {
+impl InputPart {
     /// Returns its index among the arguments of the call.
     pub fn index(self) -> u32
         ensures { result ≤ 1 }
     {
         match self {
-            Buffer::Arguments => 0,
-            Buffer::Files => 1,
+            InputPart::Arguments => 0,
+            InputPart::Files => 1,
         }
     }
 }
@@ -48,9 +48,9 @@ pub struct CallInput<'a> {
 #[derive(Drop)]
 pub enum CallInputError {
     /// The bytes do not have the form that is expected.
-    Form(Buffer),
+    Form(InputPart),
     /// A text is not UTF-8.
-    NotUtf8(Buffer),
+    NotUtf8(InputPart),
     Memory,
 }
 
@@ -95,10 +95,10 @@ fn arguments_in(alloc: Global, bytes: &[u8]) -> Result<Vec<String>, CallInputErr
     let mut left = bytes;
     'words: while !left.is_empty() {
         let Some((word, others)) = divided(left) else {
-            return Err(CallInputError::Form(Buffer::Arguments));
+            return Err(CallInputError::Form(InputPart::Arguments));
         };
         let Ok(word) = str::from_utf8(word) else {
-            return Err(CallInputError::NotUtf8(Buffer::Arguments));
+            return Err(CallInputError::NotUtf8(InputPart::Arguments));
         };
         push_text(alloc, &mut arguments, word)?;
         left = others;
@@ -158,10 +158,10 @@ impl<'a> CallInput<'a> {
         let mut left = bytes;
         'files: while !left.is_empty() {
             let Some(first) = first_in(left) else {
-                return Err(CallInputError::Form(Buffer::Files));
+                return Err(CallInputError::Form(InputPart::Files));
             };
             let Ok(name) = str::from_utf8(first.name) else {
-                return Err(CallInputError::NotUtf8(Buffer::Files));
+                return Err(CallInputError::NotUtf8(InputPart::Files));
             };
             self.add(alloc, name, first.content)?;
             left = first.after;

@@ -12,7 +12,7 @@ mod call_input;
 
 use byte_answers::{DONE, NO_MEMORY, NOT_UTF8, Outcome, REFUSED, write};
 pub use call_input::CallInput;
-use call_input::{Buffer, CallInputError, parse_call_input};
+use call_input::{CallInputError, InputPart, parse_call_input};
 use key_answers::answer::{Answer, Status};
 use memory_files::MemoryRuntime;
 use std::alloc::{AllocError, Global};
@@ -72,7 +72,7 @@ fn written(answer: Answer, out: &mut [u8]) -> Outcome
     let start = output.len();
     match joined(output, errors.as_str()) {
         Ok(text) => done(text.as_str(), start, status, out),
-        Err(_) => Outcome::ended(NO_MEMORY, 0),
+        Err(_) => Outcome::without_answer(NO_MEMORY, 0),
     }
 }
 
@@ -85,14 +85,14 @@ fn joined(mut text: String, other: &str) -> Result<String, AllocError>
 }
 
 /// Returns the message about a part that does not have the form that it has to have.
-fn reason_for(part: Buffer) -> &'static str {
+fn reason_for(part: InputPart) -> &'static str {
     match part {
-        Buffer::Arguments => NO_ARGUMENTS,
-        Buffer::Files => NO_FILES,
+        InputPart::Arguments => NO_ARGUMENTS,
+        InputPart::Files => NO_FILES,
     }
 }
 
-/// Runs a command on what is handed over, and writes its output, and its errors after it, as `run` does for the
+/// Runs the given command on the caller's input, and writes its output, and its errors after it, as `run` does for the
 /// commands of `manifest_check`.
 pub fn run_with<'a, F: FnOnce(CallInput<'a>) -> Result<Answer, AllocError>>(
     alloc: Global,
@@ -131,12 +131,15 @@ pub fn run_with<'a, F: FnOnce(CallInput<'a>) -> Result<Answer, AllocError>>(
             reason_for(part),
             out,
         ),
-        Err(CallInputError::NotUtf8(part)) => return Outcome::ended(NOT_UTF8, part.index()),
-        Err(CallInputError::Memory) => return Outcome::ended(NO_MEMORY, 0),
+        Err(CallInputError::NotUtf8(part)) => return Outcome::without_answer(
+            NOT_UTF8,
+            part.index(),
+        ),
+        Err(CallInputError::Memory) => return Outcome::without_answer(NO_MEMORY, 0),
     };
     match command(given) {
         Ok(answer) => written(answer, out),
-        Err(_) => Outcome::ended(NO_MEMORY, 0),
+        Err(_) => Outcome::without_answer(NO_MEMORY, 0),
     }
 }
 

@@ -76,18 +76,18 @@ pub fn package_lines(alloc: Global, document: &[u8], host: &[u8], out: &mut [u8]
         || result.code == NO_MEMORY || result.code == TOO_DEEP || result.code == UNKNOWN_TARGET) }
 {
     let Ok(document) = str::from_utf8(document) else {
-        return Outcome::ended(NOT_UTF8, 0);
+        return Outcome::without_answer(NOT_UTF8, 0);
     };
     let Ok(name) = str::from_utf8(host) else {
-        return Outcome::ended(NOT_UTF8, 1);
+        return Outcome::without_answer(NOT_UTF8, 1);
     };
     let Ok(host) = host_of(name) else {
-        return Outcome::ended(UNKNOWN_TARGET, 1);
+        return Outcome::without_answer(UNKNOWN_TARGET, 1);
     };
     match answer_for(alloc, document, host) {
         Ok(Answer::Lines(lines)) => Outcome::done(write(lines.as_bytes(), out)),
         Ok(Answer::Reason(reason)) => Outcome::refused(0, reason.as_str(), out),
-        Ok(Answer::TooDeep) => Outcome::ended(TOO_DEEP, 0),
-        Err(_) => Outcome::ended(NO_MEMORY, 0),
+        Ok(Answer::TooDeep) => Outcome::without_answer(TOO_DEEP, 0),
+        Err(_) => Outcome::without_answer(NO_MEMORY, 0),
     }
 }

@@ -16,6 +16,7 @@ const LATER: &str = "unix";
 /// A name that the walk for keywords warns about.
 const KEYWORD: &str = "true";
 
+/// A call of the library that is made on nests.
 #[derive(Clone, Copy)]
 pub enum Call {
     Read,
@@ -85,7 +86,7 @@ impl Nest {
     }
 
     /// Returns whether the result of the call is what is known of the nest.
-    pub fn is_right(&self, alloc: Global, call: Call) -> Result<bool, AllocError> {
+    pub fn is_expected(&self, alloc: Global, call: Call) -> Result<bool, AllocError> {
         match call {
             Call::Read => self.reads(alloc, ")", true),
             Call::RefuseSurplus => self.reads(alloc, " b)", false),

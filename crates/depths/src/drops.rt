@@ -69,7 +69,7 @@ impl Place {
     }
 
     /// Drops two conditions at the place. Returns whether what is seen of that is right.
-    pub fn drops_both(self, alloc: Global, a: Platform, b: Platform) -> Result<bool, AllocError> {
+    pub fn drop_both(self, alloc: Global, a: Platform, b: Platform) -> Result<bool, AllocError> {
         match self {
             Place::Scope => {
                 let held = a;
@@ -149,16 +149,17 @@ fn read(alloc: Global, shape: Shape, levels: usize) -> Result<Option<Platform>, 
     }
 }
 
-/// Makes a condition by hand, parses it from text, and drops both at this place.
-pub fn is_dropped(
+/// Makes a condition by hand, parses the same one from text, and drops both at this place. Returns whether the text is
+/// accepted and what is seen of the drops is right.
+pub fn drop_made_and_parsed(
     alloc: Global,
     shape: Shape,
     levels: usize,
     place: Place,
 ) -> Result<bool, AllocError> {
-    let made = shape.made(alloc, levels)?;
+    let made = shape.build(alloc, levels)?;
     match read(alloc, shape, levels)? {
-        Some(read) => place.drops_both(alloc, made, read),
+        Some(read) => place.drop_both(alloc, made, read),
         None => Ok(false),
     }
 }
@@ -166,7 +167,7 @@ pub fn is_dropped(
 /// Copies a condition until an allocation fails, and drops the copies, including the part of one that was made by then.
 /// Returns the number of complete copies.
 pub fn copies(alloc: Global, shape: Shape, levels: usize) -> Result<usize, AllocError> {
-    let original = shape.made(alloc, levels)?;
+    let original = shape.build(alloc, levels)?;
     let mut copies = Vec::with_capacity(alloc, 1_000)?;
     for _ in 0..1_000 {
         match original.clone(alloc) {

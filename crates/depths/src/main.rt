@@ -69,7 +69,7 @@ fn make(
     let mut are_right = true;
     for call in calls {
         let name = call.name();
-        let is_right = nest.is_right(rt.alloc(), *call)?;
+        let is_right = nest.is_expected(rt.alloc(), *call)?;
         let said = if is_right { "right" } else { "wrong" };
         println!(rt; "{levels} levels of {pattern}, {name}: {said}")?;
         are_right = are_right && is_right;
@@ -107,7 +107,7 @@ fn drop_at_each(rt: &(impl Print + AllocGlobal), shape: Shape, levels: usize) ->
     let pattern = shape.pattern(rt.alloc())?;
     let mut are_right = true;
     for place in PLACES {
-        let is_right = drops::is_dropped(rt.alloc(), shape, levels, *place)?;
+        let is_right = drops::drop_made_and_parsed(rt.alloc(), shape, levels, *place)?;
         let said = if is_right { "let go" } else { "wrong" };
         let name = place.name();
         println!(rt; "{levels} levels of {pattern}, {name}: {said}")?;
@@ -126,7 +126,7 @@ fn drop_again(
     let mut are_right = true;
     for _ in 0..times {
         for place in PLACES {
-            let is_right = drops::is_dropped(rt.alloc(), shape, levels, *place)?;
+            let is_right = drops::drop_made_and_parsed(rt.alloc(), shape, levels, *place)?;
             are_right = are_right && is_right;
         }
     }

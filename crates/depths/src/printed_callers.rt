@@ -6,7 +6,7 @@ use callers::conditions::linter::lint;
 use callers::conditions::selected::is_selected;
 use std::alloc::{AllocError, Global};
 
-/// A caller.
+/// A function of the crate `callers` that a page prints.
 #[derive(Clone, Copy)]
 pub enum Caller {
     Describe,

@@ -40,7 +40,7 @@ const BESIDE: &str = "a";
 /// The innermost name.
 const LEAF: &str = "unix";
 
-/// A shape: some levels.
+/// A shape of nests: levels that are repeated, from the innermost one on.
 #[derive(Clone, Copy)]
 pub struct Shape(&'static [Level]);
 
@@ -104,8 +104,8 @@ impl Shape {
         self.text(alloc, self.0.len(), "..")
     }
 
-    /// Returns a condition of `levels` levels, made by hand.
-    pub fn made(self, alloc: Global, levels: usize) -> Result<Platform, AllocError> {
+    /// Builds a condition of `levels` levels by hand.
+    pub fn build(self, alloc: Global, levels: usize) -> Result<Platform, AllocError> {
         let mut expression = CfgExpr::Value(name(alloc, LEAF)?);
         for height in 0..levels {
             if let Some(level) = self.level(height) {
@@ -115,7 +115,7 @@ impl Shape {
         Ok(Platform::Cfg(expression))
     }
 
-    /// Returns the text of `levels` levels.
+    /// Returns the key, in `cfg(..)`, of a condition with this number of levels.
     pub fn key(self, alloc: Global, levels: usize) -> Result<String, AllocError> {
         let mut text = String::from_str(alloc, "cfg(")?;
         text.push_str(&self.text(alloc, levels, LEAF)?)?;

@@ -18,11 +18,11 @@ use Rattle.cargo_platform.specs.declared.cfg.CfgExpr.{CfgExpr}
 use Rattle.exact_answers.specs.declared.goal_diagrams.building.Goal.{Goal}
 use Rattle.exact_answers.specs.Goals.{true_as_wanted, goals_met, IsAsTold}
 use Rattle.exact_answers.specs.declared.outlook.PairSets.{PairSets}
-use Rattle.exact_answers.specs.declared.outlook.Outlook.{Outlook}
+use Rattle.exact_answers.specs.declared.outlook.GoalEvaluator.{GoalEvaluator}
 use Rattle.exact_answers.specs.declared.outlook.Finding.{Finding}
-use Rattle.exact_answers.specs.declared.outlook.Seen.TheVariants as seen
+use Rattle.exact_answers.specs.declared.outlook.GoalState.TheVariants as seen
 use Rattle.exact_answers.specs.declared.outlook.Operation.{Operation}
-use Rattle.exact_answers.specs.declared.search.Step.TheVariants as step
+use Rattle.exact_answers.specs.declared.search.GoalsState.TheVariants as step
 use Rattle.exact_answers.specs.Inside.Paths.{Base, Turn, as_told, set_on, told_on}
 use Rattle.exact_answers.specs.Inside.Searches.{AreMissed, SaysStepOn}
 use Rattle.exact_answers.specs.Inside.Ahead.{both, gathered, meets, goals_size, worked_out, IsOutlook, Fits, Covers}
@@ -326,7 +326,7 @@ first_outcome s n gs ps same long =
 pub never : (word l : ℕ) → word ≡ 0 → bit_at word l ≡ 1 → ⊥
 never word l e h = let none : bit_at 0 l ≡ 1 = sym (ap (λ w. bit_at w l) e) ∙ h in omega (arith, none, bit_at-zero l)
 
-module _ (outlook : Outlook) (gs : List Goal) (is : IsOutlook outlook gs) (k : Base) (ds : List Turn)
+module _ (outlook : GoalEvaluator) (gs : List Goal) (is : IsOutlook outlook gs) (k : Base) (ds : List Turn)
     (table : List PairSets) (found : Finding)
     (chosen : (s : FactSet) → IsAsTold (told_on k ds) s → (l : ℕ) × (l < 64) × All (Fits s l) table)
     (works : (s : FactSet) (l : ℕ) (b : Bool) → l < 64 → All (Fits s l) table
@@ -356,7 +356,7 @@ module _ (outlook : Outlook) (gs : List Goal) (is : IsOutlook outlook gs) (k : B
       subst (λ x. IsSeen table x (goals_met (set_on k ds) gs)) e (says (set_on k ds) (as_told k ds)).1.1
 
 -- the same by what the code is given
-pub found_by : (outlook : Outlook) (os : List Operation) (ws table : List PairSets) (found : Finding)
+pub found_by : (outlook : GoalEvaluator) (os : List Operation) (ws table : List PairSets) (found : Finding)
     → os ≡ outlook.operations.items → ws ≡ table
     → ((s : FactSet) (l : ℕ) (b : Bool) → l < 64 → All (Fits s l) ws → worked_out s os [] ≡ b ∷ []
     → Says ws l found b)

@@ -10,12 +10,12 @@ use Rattle.exact_answers.specs.declared.goal_diagrams.building.Goal.{Goal}
 use Rattle.exact_answers.specs.declared.goal_diagrams.answers.Outcome.{Outcome}
 use Rattle.exact_answers.specs.declared.goal_diagrams.answers.Outcome.TheVariants as outcome
 use Rattle.exact_answers.specs.Goals.{goals_met, HasOneOpenValue, SaysOutcome, IsAsTold}
-use Rattle.exact_answers.specs.declared.diagram.End.{End}
-use Rattle.exact_answers.specs.declared.diagram.End.TheVariants as end
+use Rattle.exact_answers.specs.declared.diagram.DiagramResult.{DiagramResult}
+use Rattle.exact_answers.specs.declared.diagram.DiagramResult.TheVariants as end
 use Rattle.exact_answers.specs.declared.fact_constraints.FactConstraints.{FactConstraints}
 use Rattle.exact_answers.specs.declared.path.Path.{Path}
-use Rattle.exact_answers.specs.declared.search.Step.{Step}
-use Rattle.exact_answers.specs.declared.search.Step.TheVariants as step
+use Rattle.exact_answers.specs.declared.search.GoalsState.{GoalsState}
+use Rattle.exact_answers.specs.declared.search.GoalsState.TheVariants as step
 use Rattle.exact_answers.specs.Answers.{IsUnmarked}
 use Rattle.exact_answers.specs.Asking.{some_asks}
 use Rattle.exact_answers.specs.Inside.Paths.{IsOver, base_of, turns, told_on, told_by_path, facts_on, set_on}
@@ -75,8 +75,9 @@ taken_path p q k es at is kept asked here way = record {
 }
 
 -- the goals are met on it
-pub met_on : (p : Path) (k : FactConstraints) (gs : List Goal) (st : Step) (b : Bool) → IsPathOf p k (goal_trees gs)
-    → SaysStep st (told_by_path p) gs → st ≡ step.Decided b → b ≡ true → SaysEnd (end.Met p) k gs
+pub met_on : (p : Path) (k : FactConstraints) (gs : List Goal) (st : GoalsState) (b : Bool)
+    → IsPathOf p k (goal_trees gs) → SaysStep st (told_by_path p) gs → st ≡ step.Decided b → b ≡ true
+    → SaysEnd (end.Met p) k gs
 met_on p k gs st b way says is holds =
     let known : goals_known (told_by_path p) gs ≡ Some true =
     subst (λ st. SaysStep st (told_by_path p) gs) (is ∙ ap step.Decided holds) says in (
@@ -88,8 +89,8 @@ met_on p k gs st b way says is holds =
 
 -- ---- the end
 
-pub met_found : (e : End) (p : Path) (k : FactConstraints) (gs : List Goal) (facts : List CfgValue) → e ≡ end.Met p
-    → SaysEnd e k gs → map pair_of facts ≡ facts_on (base_of k) (turns p) → All IsUnmarked facts
+pub met_found : (e : DiagramResult) (p : Path) (k : FactConstraints) (gs : List Goal) (facts : List CfgValue)
+    → e ≡ end.Met p → SaysEnd e k gs → map pair_of facts ≡ facts_on (base_of k) (turns p) → All IsUnmarked facts
     → IsOver (base_of k) (fact_set facts)
     × ((goals_met (fact_set facts) gs ≡ true) × All (MayBeFound (base_of k) (goal_trees gs)) facts)
 met_found e p k gs facts is says pairs unmarked =
@@ -97,7 +98,7 @@ met_found e p k gs facts is says pairs unmarked =
     let found = found_facts k k (turns p) facts gs refl pairs way.0.were_open way.1 in
     (found.0, (found.1, may_be_found (base_of k) (goal_trees gs) (turns p) facts way.0.asked pairs unmarked))
 
-pub missed_by : (e : End) (k : FactConstraints) (gs : List Goal) → e ≡ end.Missed → SaysEnd e k gs
+pub missed_by : (e : DiagramResult) (k : FactConstraints) (gs : List Goal) → e ≡ end.Missed → SaysEnd e k gs
     → (s : FactSet) → IsOver (base_of k) s → goals_met s gs ≡ false
 missed_by e k gs is says s over =
     let none : AreMissed (base_of k) gs [] = subst (λ e. SaysEnd e k gs) is says in none s over tt

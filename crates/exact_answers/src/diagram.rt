@@ -11,13 +11,13 @@ ghost use Rattle.exact_answers.specs.Inside.Ahead.{AreAmong};
 use crate::fact_constraints::FactConstraints;
 use crate::goal_diagrams::{Choice, Goal, Outcome, find_choices};
 use crate::path::Path;
-use crate::search::{Step, next_step};
+use crate::search::{GoalsState, next_step};
 use cargo_platform::Cfg;
 use std::alloc::{AllocError, Global};
 
 /// The result of a diagram on goals.
 #[derive(Drop)]
-pub enum End<'a> {
+pub enum DiagramResult<'a> {
     /// They are met on this path.
     Met(Path<'a>),
     /// They are met over no possible set of facts.
@@ -109,24 +109,24 @@ fn tried<'a>(
     pairs: &[&'a Cfg],
     choices: &[Choice],
     known: &'a FactConstraints<'a>,
-) -> Result<Option<End<'a>>, AllocError>
+) -> Result<Option<DiagramResult<'a>>, AllocError>
     requires { AreAmong (some_asks (goal_trees goals.now)) (pairs_of pairs.now) }
     ensures { IfOk result (λ r. IfSome r (λ end. SaysEnd end known.now goals.now)) }
 {
     let path = path_of(alloc, pairs, choices, known)?;
     match next_step(goals, &path) {
-        Step::Decided(true) => Ok(Some(End::Met(path))),
-        Step::Decided(false) | Step::Open(_) => Ok(None),
+        GoalsState::Decided(true) => Ok(Some(DiagramResult::Met(path))),
+        GoalsState::Decided(false) | GoalsState::Open(_) => Ok(None),
     }
 }
 
-/// Returns the end of a search for the goals, if a diagram decides it. `pairs` are the pairs in the goals.
-pub fn by_diagram<'a>(
+/// Returns the result of a search for the goals, if a diagram decides it. `pairs` are the pairs in the goals.
+pub fn search_by_diagram<'a>(
     alloc: Global,
     goals: &[Goal<'a>],
     pairs: &[&'a Cfg],
     known: &'a FactConstraints<'a>,
-) -> Result<Option<End<'a>>, AllocError>
+) -> Result<Option<DiagramResult<'a>>, AllocError>
     requires { AreAmong (some_asks (goal_trees goals.now)) (pairs_of pairs.now) }
     ensures { IfOk result (λ r. IfSome r (λ end. SaysEnd end known.now goals.now)) }
 {
@@ -135,7 +135,7 @@ pub fn by_diagram<'a>(
     }
     match outcome_of(alloc, goals, pairs, known)? {
         Outcome::Way(choices) => tried(alloc, goals, pairs, &choices, known),
-        Outcome::Nothing => Ok(Some(End::Missed)),
+        Outcome::Nothing => Ok(Some(DiagramResult::Missed)),
         Outcome::TooLarge => Ok(None),
     }
 }

@@ -38,7 +38,7 @@ pub enum MustHold {
 
 /// Returns whether any set of facts is possible. Facts, complete names and keys with one value always leave some set,
 /// but what is assumed may be true over none of them. If this returns `No`, so does `can_hold` for each expression, and
-/// `always`, `implies`, `exclude` and `equivalent` return `Yes`.
+/// `always`, `implies`, `excludes` and `equivalent` return `Yes`.
 pub fn has_possible_facts<'a>(
     alloc: Global,
     known: &'a FactConstraints<'a>,
@@ -128,7 +128,7 @@ pub fn implies<'a>(
 }
 
 /// Returns whether `a` and `b` are never both true over a possible set of facts.
-pub fn exclude<'a>(
+pub fn excludes<'a>(
     alloc: Global,
     a: &'a CfgExpr,
     b: &'a CfgExpr,

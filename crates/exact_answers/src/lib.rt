@@ -20,11 +20,11 @@ mod platforms;
 mod search;
 
 pub use expressions::{
-    CanHold, MustHold, always, can_hold, equivalent, exclude, has_possible_facts, implies,
+    CanHold, MustHold, always, can_hold, equivalent, excludes, has_possible_facts, implies,
 };
 pub use fact_constraints::{FAMILY_RULE, FactConstraints, family_rule};
 pub use partial_facts::ONE_VALUED;
 pub use platforms::{
     PossibleTarget, Satisfiability, Validity, always_platform, can_hold_platform,
-    equivalent_platform, exclude_platform, implies_platform,
+    equivalent_platform, excludes_platform, implies_platform,
 };

@@ -20,7 +20,7 @@ ghost use Rattle.exact_answers.specs.Inside.Ahead.{IsOutlook, Fits, IsOpenAt, Is
 
 use crate::goal_diagrams::{Goal, is_same};
 use crate::path::Path;
-use crate::search::Step;
+use crate::search::GoalsState;
 use cargo_platform::{Cfg, CfgExpr};
 use partial_facts::Knowledge;
 use std::alloc::{AllocError, Global};
@@ -49,7 +49,7 @@ pub struct PairSets<'a> {
 
 /// Whether a goal is met by what is known of pairs.
 #[derive(Clone, Copy)]
-pub enum Seen {
+pub enum GoalState {
     /// Whether it is met.
     Known(bool),
     /// It depends on the pair with this number, which is open.
@@ -60,23 +60,23 @@ pub enum Seen {
 #[derive(Clone, Copy)]
 pub struct Finding {
     pub sets: u64,
-    pub seen: Seen,
+    pub seen: GoalState,
 }
 
 /// The operations that evaluate goals, and the pairs in the goals in the order of their numbers.
 #[derive(Drop)]
-pub struct Outlook<'a> {
+pub struct GoalEvaluator<'a> {
     pub pairs: Vec<&'a Cfg>,
     pub operations: Vec<Operation<'a>>,
 }
 
-impl<'a> Outlook<'a> {
+impl<'a> GoalEvaluator<'a> {
     /// Returns the operations that evaluate these goals.
-    pub fn new(alloc: Global, goals: &[Goal<'a>]) -> Result<Outlook<'a>, AllocError>
+    pub fn new(alloc: Global, goals: &[Goal<'a>]) -> Result<GoalEvaluator<'a>, AllocError>
         ensures { IfOk result (λ outlook. IsOutlook outlook goals.now) }
     {
         let mut pending = backwards(alloc, goals)?;
-        let mut outlook = Outlook {
+        let mut outlook = GoalEvaluator {
             pairs: Vec::new(alloc),
             operations: Vec::new(alloc),
         };
@@ -144,7 +144,7 @@ impl<'a> Outlook<'a> {
     }
 
     /// Returns what is known of the goals on the path, or by a look ahead.
-    pub fn step(&self, alloc: Global, path: &Path<'a>) -> Result<Step<'a>, AllocError>
+    pub fn step(&self, alloc: Global, path: &Path<'a>) -> Result<GoalsState<'a>, AllocError>
         requires { (gs : List Goal) × IsOutlook self.now gs }
         ensures { IfOk result (λ step. (gs : List Goal) → IsOutlook self.now gs
             → SaysStepOn step (base_of path.now.known.now) gs (turns path.now)) }
@@ -152,11 +152,11 @@ impl<'a> Outlook<'a> {
         let table = pair_sets_of(alloc, &self.pairs, path)?;
         let found = work_out_all(alloc, &self.operations, &table)?;
         if found.sets == 0 {
-            return Ok(Step::Decided(false));
+            return Ok(GoalsState::Decided(false));
         }
         match found.seen {
-            Seen::Known(met) => Ok(Step::Decided(met)),
-            Seen::Open(number) => Ok(Step::Open(open_pair(&table, number))),
+            GoalState::Known(met) => Ok(GoalsState::Decided(met)),
+            GoalState::Open(number) => Ok(GoalsState::Open(open_pair(&table, number))),
         }
     }
 }
@@ -245,7 +245,7 @@ fn literal(met: bool) -> Finding
 {
     Finding {
         sets: all_or_none(met),
-        seen: Seen::Known(met),
+        seen: GoalState::Known(met),
     }
 }
 
@@ -258,15 +258,15 @@ fn joined_sets(each: bool, word: u64, other: u64) -> u64
 }
 
 /// Returns what is seen of two goals together. If one is open, the first such goal gives the open pair.
-fn joined_seen(each: bool, one: Seen, other: Seen) -> Seen
+fn joined_seen(each: bool, one: GoalState, other: GoalState) -> GoalState
     ensures { (table : List PairSets) (a b : Bool) → IsSeen table one a → IsSeen table other b
         → IsSeen table result (both each a b) }
 {
     match one {
-        Seen::Known(met) => { if met == each { other } else { one } }
-        Seen::Open(_) => match other {
-            Seen::Known(met) => { if met == each { one } else { other } }
-            Seen::Open(_) => one,
+        GoalState::Known(met) => { if met == each { other } else { one } }
+        GoalState::Open(_) => match other {
+            GoalState::Known(met) => { if met == each { one } else { other } }
+            GoalState::Open(_) => one,
         },
     }
 }
@@ -383,13 +383,13 @@ fn sets_of(sets: &PairSets<'_>, wanted: bool) -> u64
 }
 
 /// Returns what is seen of a pair with a wanted truth.
-fn seen_of(tells: Option<bool>, wanted: bool, number: usize) -> Seen
+fn seen_of(tells: Option<bool>, wanted: bool, number: usize) -> GoalState
     ensures { (table : List PairSets) (b : Bool) → (tells ≡ None → IsOpenAt table number) → IfSome tells (λ t. b ≡ t)
         → IsSeen table result (true_as_wanted wanted b) }
 {
     match tells {
-        Some(truth) => Seen::Known(truth == wanted),
-        None => Seen::Open(number),
+        Some(truth) => GoalState::Known(truth == wanted),
+        None => GoalState::Open(number),
     }
 }
 

@@ -114,7 +114,7 @@ impl<'a> Path<'a> {
     }
 
     /// Returns how many splits were made.
-    pub fn made(&self) -> u64
+    pub fn split_count(&self) -> u64
         ensures { result ≡ self.now.made }
     {
         self.made
@@ -164,7 +164,7 @@ impl<'a> Path<'a> {
         takes_value(&self.splits, key) || has_value(self.known.facts, key)
     }
 
-    /// Takes an open pair as none: this is one split, and nothing else counts.
+    /// Takes an open pair as absent: this is one split, and nothing else counts.
     pub fn split(&mut self, fact: &'a Cfg) -> Result<(), AllocError>
         requires { self.old.made + 1 < 2 ^ 64 }
         ensures known { self.new.known.now ≡ self.old.known.now }
@@ -177,7 +177,7 @@ impl<'a> Path<'a> {
         Ok(())
     }
 
-    /// Takes an open pair as a fact or as none, without counting a split. Does nothing if the pair is not open.
+    /// Takes an open pair as a fact or as absent, without counting a split. Does nothing if the pair is not open.
     pub fn take(&mut self, fact: &'a Cfg, holds: bool) -> Result<(), AllocError>
         ensures known { self.new.known.now ≡ self.old.known.now }
         ensures open { OnOk result (WereOpen (base_of self.old.known.now) (turns self.old)
@@ -201,7 +201,7 @@ impl<'a> Path<'a> {
     }
 
     /// Undoes each split.
-    pub fn undo(&mut self)
+    pub fn undo_all(&mut self)
         ensures known { self.new.known.now ≡ self.old.known.now }
         ensures counted { self.new.made ≡ self.old.made }
         ensures undone { turns self.new ≡ [] }
@@ -209,9 +209,9 @@ impl<'a> Path<'a> {
         self.splits.clear();
     }
 
-    /// Returns to the last pair that is taken not to be a fact, and takes it as a fact. Returns `false` if there is no
-    /// such pair; then all splits are undone.
-    pub fn turn(&mut self) -> Result<bool, AllocError>
+    /// Goes back to the last pair that is taken not to be a fact, and takes it as a fact. Returns `false` if there is
+    /// no such pair; then all splits are undone.
+    pub fn backtrack(&mut self) -> Result<bool, AllocError>
         ensures known { self.new.known.now ≡ self.old.known.now }
         ensures counted { self.new.made ≡ self.old.made }
         ensures turned { IfOk result (λ is_turned. MatchBool is_turned

@@ -134,7 +134,7 @@ pub fn implies_platform<'a>(
 }
 
 /// Returns whether `a` and `b` are both true on no possible target.
-pub fn exclude_platform<'a>(
+pub fn excludes_platform<'a>(
     alloc: Global,
     a: &'a Platform,
     b: &'a Platform,

@@ -105,7 +105,7 @@ impl From<AllocError> for QueryError {
     }
 }
 
-/// Returns the refusal of invalid arguments with this message, or the refusal of memory for its line.
+/// Returns the error about invalid arguments with this message, or the error that memory ran out for its line.
 pub fn argument_error(alloc: Global, message: &str) -> QueryError {
     match format!(in alloc; "error: {message}\n") {
         Ok(line) => QueryError::Unusable(line),
@@ -113,7 +113,8 @@ pub fn argument_error(alloc: Global, message: &str) -> QueryError {
     }
 }
 
-/// Returns the refusal of a file with this reason, on a line of its own, or the refusal of memory for that line.
+/// Returns the error about a file with this reason, on a line of its own, or the error that memory ran out for that
+/// line.
 pub fn file_error(alloc: Global, file: &str, reason: &str) -> QueryError {
     match format!(in alloc; "{file}: error: {reason}\n") {
         Ok(line) => QueryError::Unusable(line),

@@ -4,10 +4,10 @@ use crate::answer::{Answer, QueryError, Status};
 use crate::comparison::json_line;
 use crate::conditions::read_key;
 use crate::printing::format_example;
-use crate::work::{Keys, split_budget};
+use crate::work::{KeyPair, case_split_budget};
 use cargo_platform::{CfgExpr, Platform};
 use exact_answers::{
-    FactConstraints, ONE_VALUED, PossibleTarget, Validity, exclude_platform, family_rule,
+    FactConstraints, ONE_VALUED, PossibleTarget, Validity, excludes_platform, family_rule,
     implies_platform,
 };
 use known_targets::{COUNT, TargetSet, matching};
@@ -213,7 +213,7 @@ fn found_everywhere<'a>(
     Ok(ExactRelations {
         implies: tidy(implies_platform(alloc, a, b, known, splits)?)?,
         implied_by: tidy(implies_platform(alloc, b, a, known, splits)?)?,
-        excludes: tidy(exclude_platform(alloc, a, b, known, splits)?)?,
+        excludes: tidy(excludes_platform(alloc, a, b, known, splits)?)?,
     })
 }
 
@@ -286,7 +286,7 @@ fn lines_of(
 /// Returns how the keys relate, on every possible target and on the known ones.
 fn compared(
     alloc: Global,
-    keys: &Keys<'_>,
+    keys: &KeyPair<'_>,
     rule: &CfgExpr,
     budget: u64,
     json: bool,
@@ -298,7 +298,7 @@ fn compared(
         assumed: rule,
     };
     let at_known = at_known_targets(alloc, keys.a, keys.b)?;
-    let splits = split_budget(alloc, keys, budget)?;
+    let splits = case_split_budget(alloc, keys, budget)?;
     let everywhere = found_everywhere(alloc, keys.a, keys.b, &known, splits)?;
     let mut errors = empty_note(alloc, "first", keys.a)?;
     let second = empty_note(alloc, "second", keys.b)?;
@@ -328,7 +328,7 @@ pub fn compare(
     let a = read_key(alloc, first)?;
     let b = read_key(alloc, second)?;
     let rule = family_rule(alloc)?;
-    let keys = Keys {
+    let keys = KeyPair {
         first,
         a: &a,
         second,

@@ -4,7 +4,7 @@ ghost use Rattle.std.specs.Prelude.{◌≡◌, true, IfOk, OnOk, string_bytes};
 ghost use Rattle.std.specs.List.{list_all};
 ghost use Rattle.key_answers.specs.JsonLines.{is_printable, IsShownText, AppendsShown, AppendsLine};
 
-use crate::line_writer::LineWriter;
+use crate::line_writer::JsonLine;
 use cargo_platform::printable_text;
 use serde::Serialize;
 use std::alloc::{AllocError, Global};
@@ -111,7 +111,7 @@ pub fn push_line<T: Serialize>(
     // Each character of the line is shown.
     ensures { OnOk result (AppendsLine (string_bytes text.old) (string_bytes text.new)) }
 {
-    let json = LineWriter::new(alloc, false).json_of(value)?;
+    let json = JsonLine::new(alloc, false).json_of(value)?;
     push_json(text, alloc, json.as_str())
 }
 
@@ -124,6 +124,6 @@ pub fn push_spaced_line<T: Serialize>(
     // Each character of the line is shown.
     ensures { OnOk result (AppendsLine (string_bytes text.old) (string_bytes text.new)) }
 {
-    let json = LineWriter::new(alloc, true).json_of(value)?;
+    let json = JsonLine::new(alloc, true).json_of(value)?;
     push_json(text, alloc, json.as_str())
 }

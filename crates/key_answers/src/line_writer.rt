@@ -5,7 +5,7 @@ use std::alloc::{AllocError, Global};
 
 /// JSON on one line that is being written.
 #[derive(Drop)]
-pub struct LineWriter {
+pub struct JsonLine {
     alloc: Global,
     json: String,
     /// True if a space follows each comma and each colon.
@@ -25,10 +25,10 @@ fn are_plain(bytes: &[u8]) -> bool {
     bytes.iter().fold(true, |all, byte| all & is_plain(*byte))
 }
 
-impl LineWriter {
+impl JsonLine {
     /// Returns a writer of an empty text.
-    pub fn new(alloc: Global, is_spaced: bool) -> LineWriter {
-        LineWriter {
+    pub fn new(alloc: Global, is_spaced: bool) -> JsonLine {
+        JsonLine {
             alloc,
             json: String::new(alloc),
             is_spaced,
@@ -40,7 +40,7 @@ impl LineWriter {
     pub fn json_of<T: Serialize>(self, value: &T) -> Result<String, AllocError> {
         let mut writer = self;
         value.serialize(&mut writer)?;
-        let LineWriter { json, .. } = writer;
+        let JsonLine { json, .. } = writer;
         Ok(json)
     }
 
@@ -131,7 +131,7 @@ impl LineWriter {
 }
 
 /// A value whose type derives `Serialize` has no floats, bytes or maps here; these are refused.
-impl Serializer for LineWriter {
+impl Serializer for JsonLine {
     type Error = AllocError;
 
     fn bool(&mut self, v: bool) -> Result<(), AllocError> {

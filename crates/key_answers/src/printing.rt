@@ -158,8 +158,8 @@ fn unopened_text(alloc: Global, key: &str, span: Range<usize>) -> Result<String,
     )
 }
 
-/// Returns why a key is rejected, on one line: the error, but for a key in which `cfg(` or `)` is missing that this is
-/// so. A character that the text names is the one at the span of the error. Fails if memory is refused.
+/// Returns why a key is rejected, on one line: the error or, if `cfg(` or `)` is missing, that fact. A character that
+/// the text names is the one at the span of the error. Fails if memory is refused.
 pub fn key_reason(alloc: Global, key: &str, error: &ParseError) -> Result<String, AllocError>
     ensures { IfOk result (λ s. IsKeyReason key.now error.now (string_bytes s)) }
 {

@@ -8,7 +8,7 @@ const LEAST: u64 = 8;
 
 /// Two keys: their texts and conditions.
 #[derive(Clone, Copy)]
-pub struct Keys<'a> {
+pub struct KeyPair<'a> {
     pub first: &'a str,
     pub a: &'a Platform,
     pub second: &'a str,
@@ -16,7 +16,7 @@ pub struct Keys<'a> {
 }
 
 /// Returns how many facts the keys use, each counted once.
-fn count_of_facts(alloc: Global, keys: &Keys<'_>) -> Result<u64, AllocError> {
+fn count_of_facts(alloc: Global, keys: &KeyPair<'_>) -> Result<u64, AllocError> {
     let mut facts = values_of(alloc, keys.a)?;
     for fact in &values_of(alloc, keys.b)? {
         facts.push(*fact)?;
@@ -28,7 +28,7 @@ fn count_of_facts(alloc: Global, keys: &Keys<'_>) -> Result<u64, AllocError> {
 
 /// Returns how many steps a case split takes: one for each byte of both keys, which are read whole, and one for each
 /// pair of their facts, which are compared.
-fn steps_of_split(alloc: Global, keys: &Keys<'_>) -> Result<u64, AllocError> {
+fn steps_of_split(alloc: Global, keys: &KeyPair<'_>) -> Result<u64, AllocError> {
     let facts = count_of_facts(alloc, keys)?;
     let bytes = keys.first.len().saturating_add(keys.second.len());
     let bytes = u64::try_from(bytes).unwrap_or(u64::MAX);
@@ -36,7 +36,7 @@ fn steps_of_split(alloc: Global, keys: &Keys<'_>) -> Result<u64, AllocError> {
 }
 
 /// Returns how many case splits fit in this number of steps.
-pub fn split_budget(alloc: Global, keys: &Keys<'_>, steps: u64) -> Result<u64, AllocError> {
+pub fn case_split_budget(alloc: Global, keys: &KeyPair<'_>, steps: u64) -> Result<u64, AllocError> {
     if steps == 0 {
         return Ok(0);
     }

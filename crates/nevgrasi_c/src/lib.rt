@@ -104,7 +104,7 @@ pub extern "C" fn nevgrasi_fault(
     ensures span { result ≢ REFUSED → HasNoSpan outcome.new }
     ensures outcome { outcome.new.code ≡ result }
 {
-    *outcome = byte_answers::fault(alloc, key, out);
+    *outcome = byte_answers::fault_snippet(alloc, key, out);
     outcome.code
 }
 
@@ -200,7 +200,7 @@ pub extern "C" fn nevgrasi_targets(
     ensures span { result ≢ REFUSED → HasNoSpan outcome.new }
     ensures outcome { outcome.new.code ≡ result }
 {
-    *outcome = byte_answers::targets(alloc, key, words, out);
+    *outcome = byte_answers::matching_targets(alloc, key, words, out);
     outcome.code
 }
 

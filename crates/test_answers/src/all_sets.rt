@@ -190,8 +190,8 @@ impl<'a> Question<'a> {
         }
     }
 
-    /// Returns whether a target with this name, or with one that is in neither condition, is possible and is such an
-    /// example.
+    /// Returns whether a target with these facts and this name, or without a name one that is in neither condition, is
+    /// possible and is an example of the question.
     pub fn is_found(&self, known: &FactConstraints<'_>, name: Option<&str>, set: &[Cfg]) -> bool {
         is_possible(known, set) && self.is_sought(name.unwrap_or(OTHER), set)
     }
@@ -223,7 +223,7 @@ impl<'a> Question<'a> {
         Ok(pairs)
     }
 
-    /// Returns whether a possible target is such an example.
+    /// Returns whether some possible target is an example of the question.
     pub fn is_met(&self, alloc: Global, known: &FactConstraints<'_>) -> Result<bool, Fault> {
         let pairs = self.pairs(alloc, known)?;
         for bits in 0..sets_of(pairs.len())? {

@@ -5,15 +5,15 @@ use crate::row_facts;
 use cargo_platform::{Cfg, CfgExpr, Platform};
 use exact_answers::{
     CanHold, FactConstraints, MustHold, ONE_VALUED, PossibleTarget, Satisfiability, Validity,
-    always, always_platform, can_hold, can_hold_platform, equivalent, equivalent_platform, exclude,
-    exclude_platform, family_rule, has_possible_facts, implies, implies_platform,
+    always, always_platform, can_hold, can_hold_platform, equivalent, equivalent_platform,
+    excludes, excludes_platform, family_rule, has_possible_facts, implies, implies_platform,
 };
 use std::alloc::{AllocError, Global};
 use test_rows::Fault;
 use test_rows::bars::text_of;
 use test_rows::fields::Fields;
 use test_rows::forms::{self, word};
-use test_rows::texts::{platform, spelled};
+use test_rows::texts::{expression, platform};
 
 /// The knowledge about a target in a setting: facts, complete names, keys with one value, and an assumption.
 #[derive(Drop)]
@@ -73,7 +73,7 @@ fn assumed(alloc: Global, word: Option<&str>) -> Result<CfgExpr, Fault> {
     match word {
         None => Ok(CfgExpr::True),
         Some("family") => Ok(family_rule(alloc)?),
-        Some(word) => spelled(alloc, &text_of(alloc, word)?),
+        Some(word) => expression(alloc, &text_of(alloc, word)?),
     }
 }
 
@@ -155,7 +155,7 @@ fn condition(
     if of_keys {
         return platform(alloc, &text);
     }
-    Ok(Platform::Cfg(spelled(alloc, &text)?))
+    Ok(Platform::Cfg(expression(alloc, &text)?))
 }
 
 /// The target that was found, which is an example or a counterexample, if there is one.
@@ -180,7 +180,7 @@ fn of_facts(
         "met" => Ok(example(has_possible_facts(alloc, known, budget)?)),
         "always" => Ok(counterexample(always(alloc, a, known, budget)?)),
         "implies" => Ok(counterexample(implies(alloc, a, b, known, budget)?)),
-        "exclude" => Ok(counterexample(exclude(alloc, a, b, known, budget)?)),
+        "exclude" => Ok(counterexample(excludes(alloc, a, b, known, budget)?)),
         _ => Ok(counterexample(equivalent(alloc, a, b, known, budget)?)),
     }
 }
@@ -221,7 +221,7 @@ fn of_targets(
         }
         "always" => always_platform(alloc, a, known, 1000)?,
         "implies" => implies_platform(alloc, a, b, known, 1000)?,
-        "exclude" => exclude_platform(alloc, a, b, known, 1000)?,
+        "exclude" => excludes_platform(alloc, a, b, known, 1000)?,
         _ => equivalent_platform(alloc, a, b, known, 1000)?,
     };
     match answer {
@@ -257,9 +257,9 @@ fn told(alloc: Global, kind: &str, found: &Found, more: &str) -> Result<String, 
         Found::Target(target) => match more {
             "set" => Ok(forms::values(alloc, &target.facts)?),
             "target" => shown(alloc, target),
-            _ => Ok(forms::yes(alloc, is_example)?),
+            _ => Ok(forms::yes_or_no(alloc, is_example)?),
         },
-        Found::None => Ok(forms::yes(alloc, !is_example)?),
+        Found::None => Ok(forms::yes_or_no(alloc, !is_example)?),
         Found::Undecided => Ok(word(alloc, "undecided")?),
     }
 }

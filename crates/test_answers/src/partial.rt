@@ -11,7 +11,7 @@ use std::alloc::{AllocError, Global};
 use test_rows::Fault;
 use test_rows::fields::Fields;
 use test_rows::forms::{self, add_other, add_text_of, word};
-use test_rows::texts::{platform, spelled};
+use test_rows::texts::{expression, platform};
 
 /// Returns the answer to a row whose words are `fields`. `call` is the part of its kind after the dot.
 pub fn answer(alloc: Global, call: &str, fields: &mut Fields<'_>) -> Result<String, Fault> {
@@ -89,13 +89,13 @@ fn leaves(
 }
 
 fn in_part(alloc: Global, fields: &mut Fields<'_>) -> Result<String, Fault> {
-    let e = spelled(alloc, &fields.text(alloc)?)?;
+    let e = expression(alloc, &fields.text(alloc)?)?;
     let held = Held::read(alloc, fields)?;
     left(alloc, &e, &held.known())
 }
 
 fn with_single(alloc: Global, fields: &mut Fields<'_>) -> Result<String, Fault> {
-    let e = spelled(alloc, &fields.text(alloc)?)?;
+    let e = expression(alloc, &fields.text(alloc)?)?;
     let held = Held::read(alloc, fields)?;
     let known = OneValued {
         facts: &held.facts,
@@ -108,7 +108,7 @@ fn with_single(alloc: Global, fields: &mut Fields<'_>) -> Result<String, Fault> 
 /// Decides in two steps: the residual by the facts and complete names of the first step is decided by those of the
 /// second.
 fn later(alloc: Global, fields: &mut Fields<'_>) -> Result<String, Fault> {
-    let e = spelled(alloc, &fields.text(alloc)?)?;
+    let e = expression(alloc, &fields.text(alloc)?)?;
     let first = Held::read(alloc, fields)?;
     let asked = residual(alloc, &e, &first.known())?;
     let second = Held::read(alloc, fields)?;
@@ -140,7 +140,7 @@ fn key_left(
 /// Decides an expression, and compares that with its truth value over every completion of the unknown facts. No known
 /// fact has the name or key of one of these.
 fn tried(alloc: Global, fields: &mut Fields<'_>) -> Result<String, Fault> {
-    let e = spelled(alloc, &fields.text(alloc)?)?;
+    let e = expression(alloc, &fields.text(alloc)?)?;
     let mut held = Held::read(alloc, fields)?;
     let unknown = row_facts::values(alloc, fields)?;
     held.facts = without(alloc, &held.facts, &unknown)?;

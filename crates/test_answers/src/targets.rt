@@ -12,7 +12,7 @@ use test_rows::Fault;
 use test_rows::bars::text_of;
 use test_rows::fields::Fields;
 use test_rows::forms::{self, word};
-use test_rows::texts::{platform, spelled};
+use test_rows::texts::{expression, platform};
 
 /// Returns the answer to a row whose words are `fields`. `call` is the part of its kind after the dot.
 pub fn answer(alloc: Global, call: &str, fields: &mut Fields<'_>) -> Result<String, Fault> {
@@ -42,14 +42,14 @@ fn of_key(alloc: Global, call: &str, fields: &mut Fields<'_>) -> Result<String, 
 
 /// Returns whether an expression is true over the facts of a target, if a list, an index and the target itself agree.
 fn over_facts(alloc: Global, fields: &mut Fields<'_>) -> Result<String, Fault> {
-    let e = spelled(alloc, &fields.text(alloc)?)?;
+    let e = expression(alloc, &fields.text(alloc)?)?;
     let Some(target) = KnownTarget::by_name(fields.need()?) else {
         return Ok(word(alloc, "no target")?);
     };
     let by_facts = by_facts(alloc, &e, target)?;
     let answer = target.matches(&Platform::Cfg(e));
     if by_facts == Some(answer) {
-        return Ok(forms::yes(alloc, answer)?);
+        return Ok(forms::yes_or_no(alloc, answer)?);
     }
     Ok(word(alloc, "the facts say one thing, the target another")?)
 }

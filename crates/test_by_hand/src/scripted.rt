@@ -57,7 +57,8 @@ pub fn writes_of<W>(output: &Output<W>) -> WriteCounts {
     }
 }
 
-/// Gives a text and then so many times `a`, in pieces of at most `most` bytes. Some of its calls go wrong.
+/// A reader that gives a text and then so many times `a`, in pieces of at most `most` bytes. Some of its calls go
+/// wrong.
 #[derive(Drop)]
 pub struct ScriptedReader<'a> {
     pub text: &'a [u8],
@@ -130,7 +131,7 @@ impl<'a> Read for ScriptedReader<'a> {
     }
 }
 
-/// Takes at most `most` bytes a call. Some of its calls go wrong.
+/// A writer that takes at most `most` bytes a call. Some of its calls go wrong.
 #[derive(Drop)]
 pub struct ScriptedWriter {
     pub got: Vec<u8>,
@@ -204,7 +205,7 @@ impl Write for ScriptedWriter {
     }
 }
 
-/// Fails at each call with an error of this kind.
+/// A reader and writer whose calls all fail with an error of this kind.
 #[derive(Drop)]
 pub struct Failing(pub ErrorKind);
 

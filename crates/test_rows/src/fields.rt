@@ -124,7 +124,7 @@ impl<'a> Fields<'a> {
     }
 
     /// Returns the expected answer after `=>`, if the row has one.
-    pub fn stated(&self) -> Result<Option<&'a str>, Fault> {
+    pub fn expected(&self) -> Result<Option<&'a str>, Fault> {
         let left = self.left.trim_start();
         if left.is_empty() {
             return Ok(None);

@@ -182,7 +182,7 @@ fn came_to(
         return asked(alloc, kinds, row, settings);
     };
     let (sizes, row) = row.split_once(' ').unwrap_or((row, ""));
-    for size in sizes::named(alloc, sizes)? {
+    for size in sizes::sizes_of(alloc, sizes)? {
         let row = sizes::row_at(alloc, row, size)?;
         match asked(alloc, kinds, &row, settings)? {
             Came::AsStated => {}
@@ -204,7 +204,7 @@ fn asked(
     let mut fields = Fields::new(row, settings);
     let kind = fields.word().unwrap_or("");
     let given = kinds.answer(alloc, kind, &mut fields)?;
-    match fields.stated()? {
+    match fields.expected()? {
         None => Ok(Came::Answered(given)),
         Some(stated) => {
             if given.as_str() == stated {

@@ -24,7 +24,7 @@ fn number(word: &str) -> Result<usize, Fault> {
 }
 
 /// Returns the sizes of a word: `500` is one, and `1..8193` are those of the list from 1 up to 8193.
-pub fn named(alloc: Global, word: &str) -> Result<Vec<usize>, Fault> {
+pub fn sizes_of(alloc: Global, word: &str) -> Result<Vec<usize>, Fault> {
     let mut sizes = Vec::new(alloc);
     let Some((first, last)) = word.split_once("..") else {
         sizes.push(number(word)?).map_err(AllocError::from)?;

@@ -5,17 +5,17 @@ use cargo_platform::{CfgExpr, Platform, ReadError};
 use std::alloc::Global;
 
 /// Parses a text that is known to be an expression.
-pub fn spelled(alloc: Global, text: &str) -> Result<CfgExpr, Fault> {
-    known(CfgExpr::from_str(alloc, text))
+pub fn expression(alloc: Global, text: &str) -> Result<CfgExpr, Fault> {
+    accepted(CfgExpr::from_str(alloc, text))
 }
 
 /// Parses a text that is known to be a condition or the name of a target.
 pub fn platform(alloc: Global, text: &str) -> Result<Platform, Fault> {
-    known(Platform::from_str(alloc, text))
+    accepted(Platform::from_str(alloc, text))
 }
 
 /// Returns what was read from a text that is known to be accepted.
-pub fn known<T: Drop>(read: Result<T, ReadError>) -> Result<T, Fault> {
+pub fn accepted<T: Drop>(read: Result<T, ReadError>) -> Result<T, Fault> {
     match read {
         Ok(value) => Ok(value),
         Err(ReadError::Parse(_)) => Err(Fault::Row("the text is refused")),

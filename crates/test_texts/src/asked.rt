@@ -4,11 +4,11 @@ use cargo_platform::{CfgExpr, Platform};
 use std::alloc::Global;
 use test_rows::Fault;
 use test_rows::fields::Fields;
-use test_rows::texts::{platform, spelled};
+use test_rows::texts::{self, platform};
 
 /// Parses the next text as an expression.
 pub fn expression(alloc: Global, fields: &mut Fields<'_>) -> Result<CfgExpr, Fault> {
-    spelled(alloc, &fields.text(alloc)?)
+    texts::expression(alloc, &fields.text(alloc)?)
 }
 
 /// Parses the next text as a condition or the name of a target.

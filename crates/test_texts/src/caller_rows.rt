@@ -1,7 +1,7 @@
 //! Rows on the callers of the crate `callers`.
 
 use crate::asked;
-use callers::conditions::audit::{canonical, is_one_key, note, note_hashed};
+use callers::conditions::audit::{canonical, is_one_key, record_licence, record_licence_hashed};
 use callers::conditions::describe::describe;
 use callers::conditions::fixed_key::is_unix;
 use callers::conditions::limited::read_within;
@@ -18,8 +18,8 @@ use std::alloc::{AllocError, Global};
 use std::collections::{BTreeMap, HashMap};
 use test_rows::bars::{add_text, barred};
 use test_rows::fields::Fields;
-use test_rows::forms::{printed, word, yes};
-use test_rows::texts::{platform, spelled};
+use test_rows::forms::{printed, word, yes_or_no};
+use test_rows::texts::{expression, platform};
 use test_rows::{Fault, made_facts};
 
 /// The line number of keys.
@@ -63,7 +63,7 @@ fn of_text(
 
 fn unix(alloc: Global, fields: &mut Fields<'_>) -> Result<String, Fault> {
     let facts = made_facts::values(alloc, fields)?;
-    Ok(yes(alloc, is_unix(alloc, &facts)?)?)
+    Ok(yes_or_no(alloc, is_unix(alloc, &facts)?)?)
 }
 
 /// Returns whether a key selects a target with these facts.
@@ -71,14 +71,14 @@ fn selects(alloc: Global, key: &str, fields: &mut Fields<'_>) -> Result<String, 
     let target = fields.text(alloc)?;
     let facts = made_facts::values(alloc, fields)?;
     match unless_refused(is_selected(alloc, key, &target, &facts))? {
-        Some(holds) => Ok(yes(alloc, holds)?),
+        Some(holds) => Ok(yes_or_no(alloc, holds)?),
         None => Ok(word(alloc, "refused")?),
     }
 }
 
 /// Returns whether an expression is true over facts as rustc prints them.
 fn holds(alloc: Global, text: &str, fields: &mut Fields<'_>) -> Result<String, Fault> {
-    let e = spelled(alloc, text)?;
+    let e = expression(alloc, text)?;
     held(alloc, holds_for(alloc, &e, &fields.text(alloc)?))
 }
 
@@ -126,7 +126,7 @@ fn unless_refused<T: Drop>(answer: Result<T, ReadError>) -> Result<Option<T>, Fa
 
 fn held(alloc: Global, answer: Result<bool, FactsError>) -> Result<String, Fault> {
     match answer {
-        Ok(holds) => Ok(yes(alloc, holds)?),
+        Ok(holds) => Ok(yes_or_no(alloc, holds)?),
         Err(FactsError::Line { number, .. }) => Ok(format!(in alloc; "refused line {number}")?),
         Err(FactsError::Memory(_)) => Err(Fault::Memory),
     }
@@ -173,12 +173,12 @@ impl Licences {
     }
 
     fn note(&mut self, alloc: Global, key: &str, licence: &str) -> Result<(), Fault> {
-        note(
+        record_licence(
             &mut self.sorted,
             platform(alloc, key)?,
             word(alloc, licence)?,
         )?;
-        note_hashed(
+        record_licence_hashed(
             &mut self.hashed,
             platform(alloc, key)?,
             word(alloc, licence)?,
@@ -203,7 +203,7 @@ fn add_licence(out: &mut String, licence: Option<&String>) -> Result<(), AllocEr
 fn one(alloc: Global, first: &str, fields: &mut Fields<'_>) -> Result<String, Fault> {
     let second = asked::key(alloc, fields)?;
     let licences = Licences::of(alloc, first)?;
-    let mut out = yes(alloc, is_one_key(&platform(alloc, first)?, &second))?;
+    let mut out = yes_or_no(alloc, is_one_key(&platform(alloc, first)?, &second))?;
     licences.add(&mut out, &second)?;
     licences.add(&mut out, &platform(alloc, OTHER)?)?;
     Ok(out)
@@ -227,7 +227,7 @@ fn refused(alloc: Global, refusal: &ManifestError) -> Result<String, Fault> {
 
 /// Returns the members of an `all`, printed.
 fn members(alloc: Global, text: &str) -> Result<String, Fault> {
-    match members_of_all(spelled(alloc, text)?) {
+    match members_of_all(expression(alloc, text)?) {
         Some(members) => Ok(in_print(alloc, &members)?),
         None => Ok(word(alloc, "none")?),
     }
@@ -248,5 +248,5 @@ fn of_system(alloc: Global, text: &str, fields: &mut Fields<'_>) -> Result<Strin
         name: fields.text(alloc)?,
         is_unix: true,
     };
-    Ok(yes(alloc, spelled(alloc, text)?.matches_in(&system))?)
+    Ok(yes_or_no(alloc, expression(alloc, text)?.matches_in(&system))?)
 }

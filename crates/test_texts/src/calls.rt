@@ -5,7 +5,7 @@ use std::alloc::{AllocError, Global};
 use test_rows::Fault;
 use test_rows::fields::Fields;
 use test_rows::forms::{self, add_error, add_tree, tree, word};
-use test_rows::texts::spelled;
+use test_rows::texts::expression;
 
 /// Returns the answer to a row whose words are `fields`. `call` is the part of its kind after the dot.
 pub fn answer(alloc: Global, call: &str, fields: &mut Fields<'_>) -> Result<String, Fault> {
@@ -16,7 +16,7 @@ pub fn answer(alloc: Global, call: &str, fields: &mut Fields<'_>) -> Result<Stri
             let left = fields.text(alloc)?;
             made(alloc, &text, ParseErrorKind::UnterminatedExpression(left))
         }
-        "parts" => Ok(parts(alloc, spelled(alloc, &text)?)?),
+        "parts" => Ok(parts(alloc, expression(alloc, &text)?)?),
         _ => Err(Fault::Row("there is no such kind")),
     }
 }

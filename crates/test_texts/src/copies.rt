@@ -6,8 +6,7 @@ use std::fmt::Display;
 use test_rows::bars::add_text;
 use test_rows::fields::Fields;
 use test_rows::forms::{self, add_name, add_value, word};
-use test_rows::texts::spelled;
-use test_rows::{Fault, made_facts};
+use test_rows::{Fault, made_facts, texts};
 
 /// Returns the answer to a row whose words are `fields`. `call` is the part of its kind after the dot.
 pub fn answer(alloc: Global, call: &str, fields: &mut Fields<'_>) -> Result<String, Fault> {
@@ -66,7 +65,7 @@ fn printed<T: Display>(alloc: Global, mut out: String, copy: &T) -> Result<Strin
 /// Returns whether the copy of an expression prints the text that it was parsed from, also for debugging, as a
 /// condition and in its JSON. Its levels take no stack of the test program.
 fn prints_itself(alloc: Global, text: &str) -> Result<bool, Fault> {
-    let copy = spelled(alloc, text)?.clone(alloc)?;
+    let copy = texts::expression(alloc, text)?.clone(alloc)?;
     Ok(is_print(alloc, &copy, text)? && is_condition(alloc, copy, text)?)
 }
 

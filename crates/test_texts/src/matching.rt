@@ -4,8 +4,8 @@ use crate::asked;
 use cargo_platform::{Cfg, CfgExpr, FactIndex, Facts, Listed, Platform};
 use std::alloc::Global;
 use test_rows::fields::Fields;
-use test_rows::forms::{word, yes};
-use test_rows::texts::{known, platform, spelled};
+use test_rows::forms::{word, yes_or_no};
+use test_rows::texts::{accepted, expression, platform};
 use test_rows::{Fault, made_facts};
 
 /// Returns the answer to a row whose words are `fields`. `call` is the part of its kind after the dot.
@@ -37,10 +37,10 @@ fn has_fact<F: Facts>(facts: &F, fact: &Cfg) -> bool {
 /// Returns whether an expression is true over facts, if all holders and its text agree.
 fn over_each(alloc: Global, fields: &mut Fields<'_>) -> Result<String, Fault> {
     let text = fields.text(alloc)?;
-    let e = spelled(alloc, &text)?;
+    let e = expression(alloc, &text)?;
     let facts = made_facts::values(alloc, fields)?;
     let answer = e.matches(&facts);
-    if known(CfgExpr::matches_str(alloc, &text, &facts))? != answer {
+    if accepted(CfgExpr::matches_str(alloc, &text, &facts))? != answer {
         return Ok(word(alloc, "the text is evaluated otherwise")?);
     }
     let index = FactIndex::new(alloc, &facts)?;
@@ -57,7 +57,7 @@ fn is_same(e: &CfgExpr, facts: &[Cfg], index: &FactIndex, answer: bool) -> bool 
 
 fn agreed(alloc: Global, answer: bool, is_same: bool) -> Result<String, Fault> {
     if is_same {
-        return Ok(yes(alloc, answer)?);
+        return Ok(yes_or_no(alloc, answer)?);
     }
     Ok(word(alloc, "one holder says yes, another no")?)
 }
@@ -90,7 +90,7 @@ fn at_target(alloc: Global, fields: &mut Fields<'_>) -> Result<String, Fault> {
     let name = fields.text(alloc)?;
     let facts = made_facts::values(alloc, fields)?;
     let (answer, asks) = p.matches_counted(&name, &Listed(&facts));
-    if known(Platform::matches_str(alloc, &text, &name, &facts))? != answer {
+    if accepted(Platform::matches_str(alloc, &text, &name, &facts))? != answer {
         return Ok(word(alloc, "the text is evaluated otherwise")?);
     }
     if answer != p.matches(&name, &facts) {
@@ -103,7 +103,7 @@ fn at_target(alloc: Global, fields: &mut Fields<'_>) -> Result<String, Fault> {
 fn by_key(alloc: Global, fields: &mut Fields<'_>) -> Result<String, Fault> {
     let key = fields.text(alloc)?;
     let facts = made_facts::values(alloc, fields)?;
-    Ok(yes(alloc, CfgExpr::matches_key(alloc, &key, &facts)?)?)
+    Ok(yes_or_no(alloc, CfgExpr::matches_key(alloc, &key, &facts)?)?)
 }
 
 /// Returns whether a name or pair is one of the facts.

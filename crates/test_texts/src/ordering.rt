@@ -9,8 +9,7 @@ use std::hash::{DefaultHasher, Hash, Hasher};
 use test_rows::bars::text_of;
 use test_rows::fields::Fields;
 use test_rows::forms::{self, word};
-use test_rows::texts::spelled;
-use test_rows::{Fault, made_facts};
+use test_rows::{Fault, made_facts, texts};
 
 /// Returns the answer to a row whose words are `fields`. `call` is the part of its kind after the dot.
 pub fn answer(alloc: Global, call: &str, fields: &mut Fields<'_>) -> Result<String, Fault> {
@@ -50,7 +49,7 @@ fn of_names(alloc: Global, fields: &mut Fields<'_>) -> Result<String, Fault> {
 fn is_name(alloc: Global, fields: &mut Fields<'_>) -> Result<String, Fault> {
     let name = made_facts::name(alloc, fields.need()?)?;
     let text = fields.text(alloc)?;
-    Ok(forms::yes(alloc, name.eq_text(&text))?)
+    Ok(forms::yes_or_no(alloc, name.eq_text(&text))?)
 }
 
 fn hash_of<T: Hash>(x: &T) -> u64 {
@@ -116,7 +115,7 @@ fn expressions(alloc: Global, fields: &mut Fields<'_>) -> Result<Vec<CfgExpr>, F
 }
 
 fn expression(alloc: Global, word: &str) -> Result<CfgExpr, Fault> {
-    spelled(alloc, &text_of(alloc, word)?)
+    texts::expression(alloc, &text_of(alloc, word)?)
 }
 
 /// Returns for each expression that is looked up the number of the last one that was inserted under it, in maps of both

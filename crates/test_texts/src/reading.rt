@@ -8,7 +8,7 @@ use std::alloc::{AllocError, Global};
 use test_rows::bars::{add_text, barred};
 use test_rows::fields::Fields;
 use test_rows::forms::{self, add_error, add_other, add_printed, add_span, refused, tree, word};
-use test_rows::texts::{known, platform, spelled};
+use test_rows::texts::{self, accepted, platform};
 use test_rows::{Fault, trees};
 
 /// The maximum number of character reads for each character of a text, and for its end. `.ci/second-reader` takes the
@@ -82,7 +82,7 @@ fn refused_again(
 
 /// The facts over which each accepted text is evaluated: none, and the name `a`.
 fn some_facts(alloc: Global) -> Result<[Cfg; 1], Fault> {
-    Ok([known(Cfg::from_str(alloc, "a"))?])
+    Ok([accepted(Cfg::from_str(alloc, "a"))?])
 }
 
 /// Appends that a text is evaluated otherwise than what was read from it, if it is.
@@ -99,8 +99,8 @@ fn read_expression(alloc: Global, e: &CfgExpr, text: &str) -> Result<String, Fau
     add_again(alloc, &mut out, e, text, &form)?;
     add_copy(alloc, &mut out, e, &form)?;
     let facts = some_facts(alloc)?;
-    let none = known(CfgExpr::matches_str(alloc, text, &[]))? == e.matches(&[]);
-    let some = known(CfgExpr::matches_str(alloc, text, &facts))? == e.matches(&facts);
+    let none = accepted(CfgExpr::matches_str(alloc, text, &[]))? == e.matches(&[]);
+    let some = accepted(CfgExpr::matches_str(alloc, text, &facts))? == e.matches(&facts);
     add_evaluated(&mut out, none && some)?;
     Ok(out)
 }
@@ -115,7 +115,7 @@ fn add_again(
 ) -> Result<(), Fault> {
     let printed = forms::printed(alloc, e)?;
     add_other(out, " prints ", &printed, text)?;
-    let again = tree(alloc, &spelled(alloc, &printed)?)?;
+    let again = tree(alloc, &texts::expression(alloc, &printed)?)?;
     add_other(out, ", but reads back as ", &again, form)?;
     Ok(())
 }
@@ -162,8 +162,8 @@ fn read_key(alloc: Global, p: &Platform, text: &str) -> Result<String, Fault> {
     let form = forms::platform(alloc, p, text)?;
     add_other(&mut out, ", but copies as ", &copy, &form)?;
     let facts = some_facts(alloc)?;
-    let none = known(Platform::matches_str(alloc, text, "b", &[]))? == p.matches("b", &[]);
-    let some = known(Platform::matches_str(alloc, text, "a", &facts))? == p.matches("a", &facts);
+    let none = accepted(Platform::matches_str(alloc, text, "b", &[]))? == p.matches("b", &[]);
+    let some = accepted(Platform::matches_str(alloc, text, "a", &facts))? == p.matches("a", &facts);
     add_evaluated(&mut out, none && some)?;
     Ok(out)
 }
@@ -321,7 +321,7 @@ fn print_target(alloc: Global, name: String) -> Result<String, Fault> {
 }
 
 fn debug(alloc: Global, text: &str) -> Result<String, Fault> {
-    let e = spelled(alloc, text)?;
+    let e = texts::expression(alloc, text)?;
     let printed = format!(in alloc; "{e:?}")?;
     let mut out = String::new(alloc);
     add_text(&mut out, &printed)?;

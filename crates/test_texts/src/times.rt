@@ -6,8 +6,7 @@ use test_rows::Fault;
 use test_rows::fields::Fields;
 use test_rows::forms::word;
 
-/// Returns whether a text is accepted, which is parsed as often as the row says. Each time, the result before is
-/// dropped.
+/// Parses a text as often as the row says, and returns whether it is accepted. Each time, the result before is dropped.
 pub fn answer(alloc: Global, call: &str, fields: &mut Fields<'_>) -> Result<String, Fault> {
     let times = fields.number()?;
     let text = fields.text(alloc)?;

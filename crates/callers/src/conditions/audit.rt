@@ -23,7 +23,7 @@ pub fn is_one_key(a: &Platform, b: &Platform) -> bool
 
 /// Records the licence of what is used under a condition. The map then has the licence for each condition with the same
 /// key, and for every other condition what it had before.
-pub fn note(
+pub fn record_licence(
     licences: &mut BTreeMap<Platform, String>,
     condition: Platform,
     licence: String,
@@ -37,8 +37,8 @@ pub fn note(
     Ok(())
 }
 
-/// Records a licence as `note` does, in a hash map.
-pub fn note_hashed(
+/// Records a licence as `record_licence` does, in a hash map.
+pub fn record_licence_hashed(
     hashed: &mut HashMap<Platform, String>,
     condition: Platform,
     licence: String,

@@ -7,8 +7,8 @@ ghost use Rattle.cargo_platform.specs.Facts.{fact_set, truth_of_condition};
 use cargo_platform::{Cfg, FactIndex, Facts, Platform};
 use std::alloc::{AllocError, Global};
 
-/// Returns whether each condition is true on the target with this name and these facts, in the order of the conditions.
-/// The facts are sorted once.
+/// Returns for each condition whether it is true on the target with this name and these facts. The facts are sorted
+/// once.
 pub fn plan(
     alloc: Global,
     target: &str,

@@ -1,6 +1,6 @@
 //! Tests of a document that is accepted.
 
-use super::support::{document, is_text};
+use super::support::{document, equals_text};
 use cargo_metadata::{Kind, Metadata, read};
 use std::process::Abort;
 
@@ -21,7 +21,7 @@ fn assert_packages(rt: &impl Abort, metadata: &Metadata) {
     assert!(rt; first.name == "a" && !first.is_macro && first.license.is_none());
     let second = metadata.packages.get(1).expect(rt, "a package");
     assert!(rt; second.id == "m 2" && second.version == "2.0.0" && second.is_macro);
-    assert!(rt; is_text(second.license, "MIT"));
+    assert!(rt; equals_text(second.license, "MIT"));
 }
 
 /// Asserts the nodes that were read.
@@ -30,7 +30,7 @@ fn assert_nodes(rt: &impl Abort, metadata: &Metadata) {
     let dependency = node.dependencies.get(0).expect(rt, "a dependency");
     assert!(rt; node.id == "a 1" && dependency.on == "m 2");
     let normal = dependency.kinds.get(0).expect(rt, "a kind");
-    assert!(rt; normal.kind == Kind::Normal && is_text(normal.condition, "cfg(unix)"));
+    assert!(rt; normal.kind == Kind::Normal && equals_text(normal.condition, "cfg(unix)"));
     let build = dependency.kinds.get(1).expect(rt, "a kind");
     assert!(rt; build.kind == Kind::Build && build.condition.is_none());
 }
@@ -41,7 +41,7 @@ fn reads_what_stands_there(rt: HostRuntime) {
     let value = document(&rt, alloc, DOCUMENT);
     let metadata = read(alloc, &value).expect(&rt, "a document");
     assert!(rt; metadata.packages.len() == 2 && metadata.nodes.len() == 2);
-    assert!(rt; is_text(metadata.members.get(0).copied(), "a 1"));
+    assert!(rt; equals_text(metadata.members.get(0).copied(), "a 1"));
     assert_packages(&rt, &metadata);
     assert_nodes(&rt, &metadata);
 }

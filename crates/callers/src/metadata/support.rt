@@ -32,7 +32,7 @@ pub fn assert_graph_refused(rt: &impl Abort, alloc: Global, resolve: &str, wante
 }
 
 /// Returns whether there is a text, and it is `wanted`.
-pub fn is_text(found: Option<&str>, wanted: &str) -> bool {
+pub fn equals_text(found: Option<&str>, wanted: &str) -> bool {
     match found {
         Some(text) => text == wanted,
         None => false,

@@ -9,9 +9,9 @@ ghost use Rattle.partial_facts.specs.OneValued.{IsOneValued, one_valued_told};
 use cargo_platform::{Cfg, CfgExpr};
 use partial_facts::{OneValued, decide};
 
-/// Returns the truth value of the condition on each target that has the facts of the flags, such as `target_os =
-/// "linux"`, and no other value of a key in `single`, if it is the same on all of them.
-pub fn by_flags(e: &CfgExpr, flags: &[Cfg], single: &[&str]) -> Option<bool>
+/// Returns the truth of the condition on the targets that have these facts and no other value of a key in `single`, if
+/// it is the same on all of them. A flag sets a fact, such as `target_os = "linux"`.
+pub fn truth_under_flags(e: &CfgExpr, flags: &[Cfg], single: &[&str]) -> Option<bool>
     ensures exact { result
         ≡ kleene (one_valued_told (map value_of flags.now) [] (map (λ t. t.now) single.now)) (tree_of e.now) }
     ensures sound { (s : FactSet)

@@ -1,7 +1,7 @@
 //! Tests of the callers on a 64-bit Linux, on several targets, and on a few flags.
 
 use super::audit::may_leave_out;
-use super::flags::by_flags;
+use super::flags::truth_under_flags;
 use super::planner::{matches_plan, plan};
 use super::steps::residual_in_two_steps;
 use super::targets::{OneOf, for_all};
@@ -126,8 +126,13 @@ fn assert_by_flag(
 ) {
     let flags = facts(rt, alloc, "target_arch = \"arm\"");
     let e = expression(rt, alloc, text);
-    assert_decision(rt, text, by_flags(&e, &flags, ONE_VALUED), one_valued);
-    assert_decision(rt, text, by_flags(&e, &flags, &[]), any_valued);
+    assert_decision(
+        rt,
+        text,
+        truth_under_flags(&e, &flags, ONE_VALUED),
+        one_valued,
+    );
+    assert_decision(rt, text, truth_under_flags(&e, &flags, &[]), any_valued);
 }
 
 #[test]

@@ -10,7 +10,7 @@ use cargo_platform::Platform;
 use exact_answers::{FactConstraints, PossibleTarget, Validity, implies_platform};
 use std::alloc::{AllocError, Global};
 
-/// The result of moving a dependency.
+/// Whether a dependency may be moved.
 #[derive(Drop)]
 pub enum Move {
     /// Each possible target that had it keeps it.

@@ -14,9 +14,9 @@ use Rattle.exact_answers.specs.Inside.Searches.{goal_trees}
 use Rattle.exact_answers.specs.declared.goal_diagrams.building.Goal.{Goal}
 use Rattle.exact_answers.specs.declared.outlook.PairSets.{PairSets}
 use Rattle.exact_answers.specs.declared.outlook.Finding.{Finding}
-use Rattle.exact_answers.specs.declared.outlook.Seen.{Seen}
-use Rattle.exact_answers.specs.declared.outlook.Seen.TheVariants as seen
-use Rattle.exact_answers.specs.declared.outlook.Outlook.{Outlook}
+use Rattle.exact_answers.specs.declared.outlook.GoalState.{GoalState}
+use Rattle.exact_answers.specs.declared.outlook.GoalState.TheVariants as seen
+use Rattle.exact_answers.specs.declared.outlook.GoalEvaluator.{GoalEvaluator}
 use Rattle.exact_answers.specs.declared.outlook.Operation.{Operation}
 use Rattle.exact_answers.specs.declared.outlook.Operation.TheVariants as operation
 
@@ -44,7 +44,7 @@ worked_out s [] bs = bs
 worked_out s (o ∷ os) bs = worked_out s os (done s o bs)
 
 -- what the operations give, the last one first, once the goals that are left are worked out
-abbrev pub outcome : FactSet → Outlook → List Goal → List Bool
+abbrev pub outcome : FactSet → GoalEvaluator → List Goal → List Bool
 outcome s outlook left = worked_out s (reverse outlook.operations.items) (map (meets s) left)
 
 abbrev pub table_pairs : List PairSets → List Pair
@@ -65,7 +65,7 @@ abbrev pub AsksAmong : (Pair → Bool) → Goal → Type 0
 AsksAmong among g = (p : Pair) → asks (tree_of g.e.now) p ≡ true → among p ≡ true
 
 -- they give whether all goals are met, and have numbers for the pairs of these
-pub record IsOutlook (outlook : Outlook) (gs : List Goal) : Type 0 where
+pub record IsOutlook (outlook : GoalEvaluator) (gs : List Goal) : Type 0 where
   pub works_out : (s : FactSet) → worked_out s outlook.operations.items [] ≡ goals_met s gs ∷ []
   pub numbered : All (HasNumber (pairs_of outlook.pairs.items)) outlook.operations.items
   pub asked : AreAmong (some_asks (goal_trees gs)) (pairs_of outlook.pairs.items)
@@ -86,7 +86,7 @@ IsOpenAt (w ∷ ws) zero = w.tells ≡ None
 IsOpenAt (w ∷ ws) (suc n) = IsOpenAt ws n
 
 -- what is seen of a goal is its truth, or it depends on an open pair
-abbrev pub IsSeen : List PairSets → Seen → Bool → Type 0
+abbrev pub IsSeen : List PairSets → GoalState → Bool → Type 0
 IsSeen table (seen.Known c) b = b ≡ c
 IsSeen table (seen.Open n) b = IsOpenAt table n
 

@@ -16,12 +16,12 @@ use Rattle.exact_answers.specs.Answers.{IsUnmarked, IsFactOfExample}
 use Rattle.exact_answers.specs.declared.fact_constraints.FactConstraints.{FactConstraints}
 use Rattle.exact_answers.specs.declared.path.Path.{Path}
 use Rattle.exact_answers.specs.declared.goal_diagrams.building.Goal.{Goal}
-use Rattle.exact_answers.specs.declared.diagram.End.{End}
-use Rattle.exact_answers.specs.declared.diagram.End.TheVariants as end
+use Rattle.exact_answers.specs.declared.diagram.DiagramResult.{DiagramResult}
+use Rattle.exact_answers.specs.declared.diagram.DiagramResult.TheVariants as end
 use Rattle.exact_answers.specs.declared.search.Found.{Found}
 use Rattle.exact_answers.specs.declared.search.Found.TheVariants as found
-use Rattle.exact_answers.specs.declared.search.Step.{Step}
-use Rattle.exact_answers.specs.declared.search.Step.TheVariants as step
+use Rattle.exact_answers.specs.declared.search.GoalsState.{GoalsState}
+use Rattle.exact_answers.specs.declared.search.GoalsState.TheVariants as step
 
 -- whether some member is not decided
 abbrev pub has_open : (Pair → Option Bool) → Trees → Bool
@@ -48,7 +48,7 @@ AreAsked es [] = Unit {0}
 AreAsked es (d ∷ ds) = (some_asks es d.pair ≡ true) × AreAsked es ds
 
 -- what a step says
-abbrev pub SaysStep : Step → (Pair → Option Bool) → List Goal → Type 0
+abbrev pub SaysStep : GoalsState → (Pair → Option Bool) → List Goal → Type 0
 SaysStep (step.Decided b) told gs = goals_known told gs ≡ Some b
 SaysStep (step.Open c) told gs =
     (told (pair_of (value_of c.now)) ≡ None) × (some_asks (goal_trees gs) (pair_of (value_of c.now)) ≡ true)
@@ -62,7 +62,7 @@ abbrev pub AreMet : Base → List Goal → List Turn → Type 0
 AreMet k gs ds = goals_met (set_on k ds) gs ≡ true
 
 -- what a step says, with a look ahead
-abbrev pub SaysStepOn : Step → Base → List Goal → List Turn → Type 0
+abbrev pub SaysStepOn : GoalsState → Base → List Goal → List Turn → Type 0
 SaysStepOn (step.Decided b) k gs ds = MatchBool b (AreMet k gs ds) (AreMissed k gs ds)
 SaysStepOn (step.Open c) k gs ds =
     (told_on k ds (pair_of (value_of c.now)) ≡ None) × (some_asks (goal_trees gs) (pair_of (value_of c.now)) ≡ true)
@@ -115,7 +115,7 @@ pub record IsPathOf (p : Path) (k : FactConstraints) (es : Trees) : Type 0 where
   pub asked : AreAsked es (turns p)
 
 -- what a diagram tells: a path on which the goals are met, or that no possible set meets them
-abbrev pub SaysEnd : End → FactConstraints → List Goal → Type 0
+abbrev pub SaysEnd : DiagramResult → FactConstraints → List Goal → Type 0
 SaysEnd (end.Met p) k gs = IsPathOf p k (goal_trees gs) × AreMet (base_of k) gs (turns p)
 SaysEnd end.Missed k gs = AreMissed (base_of k) gs []
 

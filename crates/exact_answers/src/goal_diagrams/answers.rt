@@ -9,7 +9,7 @@ ghost use Rattle.exact_answers.specs.Diagrams.{nodes_of, places, AreEarlier, IsT
 ghost use Rattle.exact_answers.specs.Goals.{goals_met, HasOneOpenValue, pairs_of, SaysOutcome, IsAsTold};
 ghost use Rattle.exact_answers.specs.Inside.Making.{says};
 
-use crate::goal_diagrams::building::{Goal, Query, build_goals, single_values};
+use crate::goal_diagrams::building::{Goal, Query, at_most_one_value, build_goals};
 use crate::goal_diagrams::table::{Choice, DiagramError, Table};
 use cargo_platform::Cfg;
 use partial_facts::Knowledge;
@@ -51,7 +51,7 @@ fn build_all<K: Knowledge>(
         → HasOneOpenValue (K.told query.now.known.now) (names_of single.now) s
         → says s query.now.pairs.now table.new place ≡ goals_met s goals.now) }
 {
-    let among = single_values(query, table, single)?;
+    let among = at_most_one_value(query, table, single)?;
     build_goals(query, table, among, goals)
 }
 
@@ -69,8 +69,9 @@ fn choices_from(alloc: Global, table: &Table, place: usize) -> Result<Outcome, A
     Ok(Outcome::Way(choices))
 }
 
-/// Returns whether each goal can be met, by a diagram whose nodes test these pairs, in this order. A set of facts is
-/// possible if `known` allows it, and if no key in `single` has two values in it that are open by `known`.
+/// Finds choices over which each goal is met, if there are any, by a diagram whose nodes test these pairs, in this
+/// order. A set of facts is possible if `known` allows it, and if no key in `single` has two values in it that are open
+/// by `known`.
 pub fn find_choices<K: Knowledge>(
     alloc: Global,
     goals: &[Goal<'_>],

@@ -314,7 +314,7 @@ fn build_some<K: Knowledge>(
     Ok(place)
 }
 
-/// Returns the place of the sets, among those of a place, over which each goal is met.
+/// Returns the place in the table of those sets of facts at the place `among` over which each goal is met.
 pub fn build_goals<K: Knowledge>(
     query: &Query<'_, '_, K>,
     table: &mut Table,
@@ -441,8 +441,8 @@ fn one_value<K: Knowledge>(
     table.join(false, others, without)
 }
 
-/// Returns the place of the sets in which no key among these has two open values.
-pub fn single_values<K: Knowledge>(
+/// Returns the place of the sets of facts in which no key in `single` has two open values.
+pub fn at_most_one_value<K: Knowledge>(
     query: &Query<'_, '_, K>,
     table: &mut Table,
     single: &[&str],

@@ -381,7 +381,8 @@ impl Table {
         }
     }
 
-    /// Returns the place of what is true where both places are true, or else where one of them is.
+    /// Joins two places. Returns the place of what is true where both of them are, if `each`, and otherwise where at
+    /// least one of them is.
     pub fn join(&mut self, each: bool, one: usize, other: usize) -> Result<usize, DiagramError>
         requires table { IsTable (nodes_of self.old) self.old.joined.items }
         requires one { one < places (nodes_of self.old) }

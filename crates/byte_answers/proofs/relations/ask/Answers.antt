@@ -7,4 +7,4 @@ pub returns-in-Equivalent : goal.returns-in-Equivalent
 returns-in-Equivalent c = rw c.in-Equivalent.is c.equivalent_platform.ensures
 
 pub returns-in-Excludes : goal.returns-in-Excludes
-returns-in-Excludes c = rw c.in-Excludes.is c.exclude_platform.ensures
+returns-in-Excludes c = rw c.in-Excludes.is c.excludes_platform.ensures

@@ -7,7 +7,7 @@ use Rattle.exact_answers.proofs.goal_diagrams.answers.build_all.Goals as goal
 pub returns-clause-made : goal.returns-clause-made
 returns-clause-made g c =
     IfOk-weaker c.build_goals.result _ _
-    (λ place made. made-twice c.args.table.now c.single_values.new.table c.build_goals.new.table
+    (λ place made. made-twice c.args.table.now c.at_most_one_value.new.table c.build_goals.new.table
     c.in_ok-among.among place c.in_ok-among.ensures.made made)
     c.build_goals.ensures.made
 

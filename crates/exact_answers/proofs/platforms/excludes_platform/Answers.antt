@@ -1,6 +1,6 @@
 use Rattle.cargo_platform.specs.Trees.{condition_of}
 use Rattle.exact_answers.proofs.Targets.{exclude_says, must_by}
-use Rattle.exact_answers.proofs.platforms.exclude_platform.Goals as goal
+use Rattle.exact_answers.proofs.platforms.excludes_platform.Goals as goal
 
 pub returns : goal.returns
 returns c =

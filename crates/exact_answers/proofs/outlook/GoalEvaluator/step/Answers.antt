@@ -6,7 +6,7 @@ use Rattle.exact_answers.specs.Inside.Paths.{base_of, turns}
 use Rattle.exact_answers.specs.Inside.Ahead.{IsOpenAt, AreTold, table_pairs}
 use Rattle.exact_answers.proofs.Ahead.{none_met, decided, open_at, found_by}
 use Rattle.exact_answers.proofs.Numbers.{short_open}
-use Rattle.exact_answers.proofs.outlook.Outlook.step.Goals as goal
+use Rattle.exact_answers.proofs.outlook.GoalEvaluator.step.Goals as goal
 
 pub returns-then-found-eq0 : goal.returns-then-found-eq0
 returns-then-found-eq0 c = λ gs is.

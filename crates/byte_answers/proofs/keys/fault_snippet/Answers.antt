@@ -1,6 +1,6 @@
 use Rattle.std.proofs.Common.{subst, ℕ, List}
 use Rattle.byte_answers.specs.Refusals.{IsShownRefusal}
-use Rattle.byte_answers.proofs.keys.fault.Goals as goal
+use Rattle.byte_answers.proofs.keys.fault_snippet.Goals as goal
 
 pub returns-in-Err-Parse-clause-refused : goal.returns-in-Err-Parse-clause-refused
 returns-in-Err-Parse-clause-refused c = λ is.

@@ -10,7 +10,7 @@ use Rattle.exact_answers.proofs.Numbers.{none_among}
 use Rattle.exact_answers.specs.declared.outlook.Operation.TheVariants as operation
 use Rattle.exact_answers.proofs.Ahead.{first_outcome, last_first}
 use Rattle.exact_answers.proofs.Adding.{pushed_operation, more_numbered, pending_ask, popped_asks, no_goals}
-use Rattle.exact_answers.proofs.outlook.Outlook.new.Goals as goal
+use Rattle.exact_answers.proofs.outlook.GoalEvaluator.new.Goals as goal
 
 pub goals-init : goal.goals-init
 goals-init c =

@@ -7,7 +7,7 @@ use Rattle.exact_answers.proofs.Adding.{pushed_goal, not_meets, not_size, pushed
 use Rattle.exact_answers.proofs.Adding.{value_meets, true_meets, false_meets}
 use Rattle.exact_answers.proofs.Adding.{more_numbered, pair_numbered, pushed_asks, not_asks, all_asks, any_asks}
 use Rattle.exact_answers.proofs.OpenMembers.{value_asks}
-use Rattle.exact_answers.proofs.outlook.Outlook.add.Goals as goal
+use Rattle.exact_answers.proofs.outlook.GoalEvaluator.add.Goals as goal
 
 pub returns-in_ok-push-in-Not-clause-same : goal.returns-in_ok-push-in-Not-clause-same
 returns-in_ok-push-in-Not-clause-same c = λ s.

@@ -3,7 +3,7 @@ use Rattle.exact_answers.specs.Diagrams.{nodes_of}
 use Rattle.exact_answers.specs.Goals.{pairs_of, holds_in}
 use Rattle.exact_answers.proofs.Tables.{none-made, made-twice, value-true}
 use Rattle.exact_answers.proofs.Steps.{and-step}
-use Rattle.exact_answers.proofs.goal_diagrams.building.single_values.Goals as goal
+use Rattle.exact_answers.proofs.goal_diagrams.building.at_most_one_value.Goals as goal
 
 pub numbers-init : goal.numbers-init
 numbers-init g c =

@@ -4,7 +4,7 @@ use Rattle.partial_facts.specs.Partly.{names_of}
 use Rattle.exact_answers.specs.Goals.{HasOneOpenValue}
 use Rattle.exact_answers.specs.Diagrams.{IsMade}
 use Rattle.exact_answers.specs.Inside.Making.{says}
-use Rattle.exact_answers.proofs.goal_diagrams.building.single_values.Given as goal
+use Rattle.exact_answers.proofs.goal_diagrams.building.at_most_one_value.Given as goal
 
 abbrev pub invariant-numbers : goal.invariant-numbers
 invariant-numbers g l = record {

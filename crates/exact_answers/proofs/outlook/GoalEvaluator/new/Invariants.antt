@@ -5,7 +5,7 @@ use Rattle.exact_answers.specs.Goals.{goals_met, pairs_of}
 use Rattle.exact_answers.specs.Asking.{some_asks}
 use Rattle.exact_answers.specs.Inside.Searches.{goal_trees}
 use Rattle.exact_answers.specs.Inside.Ahead.{outcome, goals_size, HasNumber, AreAmong, AsksAmong}
-use Rattle.exact_answers.proofs.outlook.Outlook.new.Given as goal
+use Rattle.exact_answers.proofs.outlook.GoalEvaluator.new.Given as goal
 
 -- what is added, once the goals that are left are worked out
 abbrev pub invariant-goals : goal.invariant-goals

@@ -2,7 +2,7 @@ use Rattle.std.proofs.Common.{ap}
 use Rattle.cargo_platform.specs.Trees.{condition_of}
 use Rattle.cargo_platform.specs.Key.{condition_cmp}
 use Rattle.callers.proofs.SameKeys.{put_there, kept_there}
-use Rattle.callers.proofs.conditions.audit.note_hashed.Goals as goal
+use Rattle.callers.proofs.conditions.audit.record_licence.Goals as goal
 
 pub returns-clause-noted : goal.returns-clause-noted
 returns-clause-noted c = λ q same.
