@@ -176,7 +176,7 @@ pub fn end_of(text: &str, at: Location) -> Position {
 }
 
 /// Returns the level of a diagnostic for a finding of this level, if no rule applies to the diagnostic.
-pub fn lint_level(level: Level) -> DiagnosticLevel {
+pub fn level_of_finding(level: Level) -> DiagnosticLevel {
     match level {
         Level::Error => DiagnosticLevel::Error,
         Level::Warning => DiagnosticLevel::Warning,
@@ -188,7 +188,7 @@ pub fn lint_level(level: Level) -> DiagnosticLevel {
 pub fn default_level(lint: Lint, level: Level) -> DiagnosticLevel {
     match lint {
         Lint::Key(KeyLint::NotCanonical) => DiagnosticLevel::Allowed,
-        _ => lint_level(level),
+        _ => level_of_finding(level),
     }
 }
 

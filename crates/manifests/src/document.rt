@@ -10,7 +10,7 @@ use crate::{Targets, target_keys};
 use std::alloc::{AllocError, Global};
 use toml::Table;
 
-/// A parsed manifest.
+/// A parsed manifest: its table, and the places at which its text spells names. The name of its file is not in it.
 #[derive(Drop)]
 pub struct Document {
     pub table: Table,
