@@ -238,7 +238,7 @@ fn file_flags<R: Files + Input + Env + AllocGlobal>(
 ) -> Result<Vec<Flags>, QueryError> {
     let alloc = rt.alloc();
     let mut found = Vec::new(alloc);
-    let mut files = UnreadFiles::current(rt)?;
+    let mut files = UnreadFiles::in_current_folder(rt)?;
     for _ in 0..MAX_FILES {
         let Some(configuration) = files.read_next(rt, limit)? else {
             return Ok(found);

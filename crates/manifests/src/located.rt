@@ -38,7 +38,7 @@ fn behind(text: &str, whole: Location, span: Span) -> Location
         line: whole.line,
         column: whole.column,
     };
-    let position = start.behind(before.text_in(text).unwrap_or(""));
+    let position = start.after(before.text_in(text).unwrap_or(""));
     Location {
         span,
         line: position.line,

@@ -233,7 +233,10 @@ fn known_facts(alloc: Global, selected: &TargetsToTell<'_>) -> Result<Vec<Fact>,
 }
 
 /// Returns the candidate facts, in the order in which they are tried.
-pub fn candidate_facts(alloc: Global, selected: &TargetsToTell<'_>) -> Result<Vec<Fact>, AllocError> {
+pub fn candidate_facts(
+    alloc: Global,
+    selected: &TargetsToTell<'_>,
+) -> Result<Vec<Fact>, AllocError> {
     match selected.targets.first() {
         Some(first) if first.row.is_some() => facts_of_file(alloc, selected),
         _ => known_facts(alloc, selected),
