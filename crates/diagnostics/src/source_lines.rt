@@ -11,7 +11,7 @@ const WIDTH: usize = 136;
 /// The number of characters before a place in a line that is cut.
 const BEFORE: usize = 40;
 
-/// The text in place of what is cut.
+/// The text that stands in place of what is cut from a line.
 pub const CUT_MARK: &str = "...";
 
 /// The displayed part of a line.

@@ -72,7 +72,7 @@ impl OpenNames {
         }
     }
 
-    /// Records the names in the keys of a manifest.
+    /// Records which of these names the keys of a manifest use.
     pub fn record_uses(&mut self, alloc: Global, manifest: &Table) -> Result<(), AllocError> {
         if self.names.is_empty() {
             return Ok(());

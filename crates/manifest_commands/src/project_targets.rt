@@ -40,8 +40,9 @@ impl ManifestFile<'_> {
         }
     }
 
-    /// Adds the targets in the settings to those of the command line, or else to the known ones. Targets that can't be
-    /// added are recorded in the settings. Returns `None` if the settings have no target whose facts are in a file.
+    /// Returns the targets of the command line, or else the known ones, with those in the settings added. Targets that
+    /// can't be added are recorded in the settings. Returns `None` if the settings have no target whose facts are in a
+    /// file.
     pub fn add_custom_targets<R: Files + AllocGlobal>(
         self,
         rt: &R,

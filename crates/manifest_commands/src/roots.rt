@@ -109,8 +109,8 @@ impl Root {
             || is_whole && unneeded.any(|(rule, is_needed)| is_unneeded(rule, *is_needed))
     }
 
-    /// Reads its settings again, from which entries that nothing needs have been removed, with the targets in them, as
-    /// `read_targets` does. Of the rules that are left, those are needed that were needed before.
+    /// Reads its settings again after entries that nothing needs were removed from its file, and then their targets, as
+    /// `read_targets` does. A rule that is left is needed if it was needed before.
     pub fn read_again<R: Files + AllocGlobal>(
         &mut self,
         rt: &R,

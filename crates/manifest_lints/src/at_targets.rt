@@ -120,8 +120,8 @@ fn is_everywhere<'a>(
 
 /// Returns whether a condition of so many facts is true on no known target, and whether it is true on every known
 /// target, for all values of the open names and keys. Both are `false` if there are more than `MAX_OPEN_NAMES` of
-/// these. With more than `MAX_FULLY_SEARCHED_FACTS` facts, only what each fact says by itself counts. Fails if memory is
-/// refused.
+/// these. With more than `MAX_FULLY_SEARCHED_FACTS` facts, only what each fact says by itself counts. Fails if memory
+/// is refused.
 #[tactic(auto, using(crate::proofs::AtTargets::settles_none))]
 pub fn nowhere_and_everywhere<'a>(
     alloc: Global,

@@ -41,7 +41,7 @@ const NAMED_BY_VALUE: [&str; 9] = [
 /// The length of the shortest name that is similar to another one, in bytes.
 const SHORTEST: usize = 4;
 
-/// The class of a name or pair.
+/// What is known of a name or pair in a condition, in detail. A `Category` says it in fewer words.
 #[derive(Clone, Copy, Debug, PartialEq, Eq, Drop)]
 pub enum Class {
     /// rustc sets it for a known target, or may set it, depending on flags.
@@ -76,7 +76,7 @@ pub enum Class {
     Declared,
 }
 
-/// The category of a class.
+/// What is known of a name or pair, in few words. Each `Class` belongs to one category.
 #[derive(Clone, Copy, Debug, PartialEq, Eq, Drop)]
 pub enum Category {
     /// rustc sets it for a known target, or may set it, depending on flags.

@@ -45,7 +45,7 @@ impl Document {
     }
 }
 
-/// Where the root of the workspace of a manifest is, by the manifest itself.
+/// What a manifest says about where the root of its workspace is.
 #[derive(Drop)]
 pub enum RootPlace {
     /// The manifest is that of a root.
@@ -57,7 +57,7 @@ pub enum RootPlace {
 }
 
 impl RootPlace {
-    /// Returns where the root is by a document.
+    /// Returns what a document says.
     fn of(alloc: Global, document: &Document) -> Result<RootPlace, AllocError> {
         let Some(manifest) = document.table_if_mentioned(WORKSPACE) else {
             return Ok(RootPlace::Unsaid);
