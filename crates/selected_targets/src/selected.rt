@@ -11,7 +11,7 @@ use target_tables::TargetRow;
 
 /// The names and keys of the candidate facts, in the order in which they are tried. No flag and no profile changes one
 /// of these facts.
-const CANDIDATE_WORDS: [&str; 10] = [
+const TRIED: [&str; 10] = [
     "unix",
     "windows",
     "target_family",
@@ -164,18 +164,18 @@ fn name_of<'a>(fact: &'a Cfg) -> &'a str {
     }
 }
 
-/// Returns the index of the name or key of a fact in `CANDIDATE_WORDS`.
+/// Returns the index of the name or key of a fact in `TRIED`.
 fn rank_of(fact: &Cfg) -> Option<usize> {
     let name = name_of(fact);
-    for i in 0..CANDIDATE_WORDS.len() {
-        if CANDIDATE_WORDS[i] == name {
+    for i in 0..TRIED.len() {
+        if TRIED[i] == name {
             return Some(i);
         }
     }
     None
 }
 
-/// A candidate fact after the index of its name or key in `CANDIDATE_WORDS`, and the index of a target that has it.
+/// A candidate fact after the index of its name or key in `TRIED`, and the index of a target that has it.
 type Had<'a> = ((usize, &'a Cfg), usize);
 
 /// Returns the candidate facts of each target of a file, sorted in the order in which they are tried.
