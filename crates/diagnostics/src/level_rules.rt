@@ -6,7 +6,7 @@ ghost use Rattle.diagnostics.specs.LintLevels.{level_set, severity, IsAbout, IsM
 
 use manifest_lints_findings::Lint;
 
-/// The level at which a diagnostic is reported, before or after rules. It may be that it is not reported.
+/// The level of a diagnostic, before or after rules apply. Unlike a `Level`, it may be that nothing is reported.
 #[derive(Clone, Copy, Debug, PartialEq, Eq, Drop)]
 pub enum DiagnosticLevel {
     /// The diagnostic is not reported.

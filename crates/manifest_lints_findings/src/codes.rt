@@ -3,8 +3,8 @@
 ghost use Rattle.manifest_lints_findings.specs.Codes.{hiders, code_word, code_level, level_word};
 ghost use Rattle.std.specs.Prelude.{◌≡◌};
 
-/// How severe what a lint reports is. Rules of a manifest or command line may change the level of a diagnostic, which
-/// is a `DiagnosticLevel`.
+/// How severe a finding is. The rules of a manifest or a command line may give its diagnostic another level, a
+/// `DiagnosticLevel`.
 #[derive(Clone, Copy, Debug, PartialEq, Eq, Drop)]
 pub enum Level {
     /// Cargo rejects the manifest, or leaves something out.

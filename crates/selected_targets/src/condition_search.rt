@@ -1,7 +1,7 @@
 //! The search for conditions that are true on exactly some targets: of all known ones, or of those that are selected.
 
 use crate::selected::{
-    Fact, Selection, TargetsToTell, candidate_facts, covering as covering_of, simple_condition,
+    Fact, Selection, TargetsToTellApart, candidate_facts, covering as covering_of, simple_condition,
 };
 use cargo_platform::{Cfg, Platform};
 use known_targets::conditions::{SingleFactConditions, covering};
@@ -13,7 +13,7 @@ use std::alloc::{AllocError, Global};
 #[derive(Drop)]
 pub enum ConditionSearch<'a> {
     Known(SingleFactConditions, Vec<KnownFact>),
-    Selected(TargetsToTell<'a>, Vec<Fact>, Vec<Fact>),
+    Selected(TargetsToTellApart<'a>, Vec<Fact>, Vec<Fact>),
 }
 
 /// Pairs each fact with the known targets that have it.
@@ -29,7 +29,7 @@ fn known_facts(alloc: Global, values: Vec<Cfg>) -> Result<Vec<KnownFact>, AllocE
 /// Pairs each fact with the selected targets that have it.
 fn selected_facts(
     alloc: Global,
-    selected: &TargetsToTell<'_>,
+    selected: &TargetsToTellApart<'_>,
     values: Vec<Cfg>,
 ) -> Result<Vec<Fact>, AllocError> {
     let mut facts = Vec::new(alloc);
@@ -54,7 +54,7 @@ impl<'a> ConditionSearch<'a> {
                 known_facts(alloc, values)?,
             ));
         }
-        let selected = TargetsToTell::of(alloc, selection, host)?;
+        let selected = TargetsToTellApart::of(alloc, selection, host)?;
         let tried = candidate_facts(alloc, &selected)?;
         let facts = selected_facts(alloc, &selected, values)?;
         Ok(ConditionSearch::Selected(selected, tried, facts))

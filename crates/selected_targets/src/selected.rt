@@ -47,7 +47,7 @@ pub struct Selection<'a> {
 /// The targets that conditions have to tell apart: the selected ones, and the host if conditions are evaluated on it
 /// too.
 #[derive(Drop)]
-pub struct TargetsToTell<'a> {
+pub struct TargetsToTellApart<'a> {
     targets: Vec<Target<'a>>,
     /// True if the targets were selected by name.
     are_named: bool,
@@ -86,13 +86,13 @@ fn known_targets<'a>(alloc: Global, set: TargetSet) -> Result<Vec<Target<'a>>, A
     Ok(targets)
 }
 
-impl<'a> TargetsToTell<'a> {
+impl<'a> TargetsToTellApart<'a> {
     /// Returns the selected targets, and the host if there is one.
     pub fn of(
         alloc: Global,
         selection: Selection<'a>,
         host: Option<KnownTarget>,
-    ) -> Result<TargetsToTell<'a>, AllocError> {
+    ) -> Result<TargetsToTellApart<'a>, AllocError> {
         let hosts = match host {
             Some(host) => TargetSet::only(host),
             None => TargetSet::none(),
@@ -101,7 +101,7 @@ impl<'a> TargetsToTell<'a> {
             Some(groups) => targets_of_file(alloc, groups, host.is_some())?,
             None => known_targets(alloc, selection.targets.union(hosts))?,
         };
-        Ok(TargetsToTell {
+        Ok(TargetsToTellApart {
             targets,
             are_named: selection.are_named,
         })
@@ -141,7 +141,11 @@ pub struct Fact {
 
 impl Fact {
     /// Returns a fact with the targets that have it.
-    pub fn of(alloc: Global, selected: &TargetsToTell<'_>, fact: Cfg) -> Result<Fact, AllocError> {
+    pub fn of(
+        alloc: Global,
+        selected: &TargetsToTellApart<'_>,
+        fact: Cfg,
+    ) -> Result<Fact, AllocError> {
         let copy = fact.clone(alloc)?;
         let condition = Platform::Cfg(CfgExpr::Value(copy));
         let known = targets_with_fact(&fact);
@@ -179,7 +183,10 @@ fn rank_of(fact: &Cfg) -> Option<usize> {
 type Had<'a> = ((usize, &'a Cfg), usize);
 
 /// Returns the candidate facts of each target of a file, sorted in the order in which they are tried.
-fn had_facts<'a>(alloc: Global, selected: &TargetsToTell<'a>) -> Result<Vec<Had<'a>>, AllocError> {
+fn had_facts<'a>(
+    alloc: Global,
+    selected: &TargetsToTellApart<'a>,
+) -> Result<Vec<Had<'a>>, AllocError> {
     let mut had = Vec::new(alloc);
     for i in 0..selected.targets.len() {
         let Some(row) = selected.targets[i].row else {
@@ -204,7 +211,10 @@ fn is_last(facts: &[Fact], fact: &Cfg) -> bool {
 }
 
 /// Returns the candidate facts of the targets of a file, in the order in which they are tried.
-fn facts_of_file(alloc: Global, selected: &TargetsToTell<'_>) -> Result<Vec<Fact>, AllocError> {
+fn facts_of_file(
+    alloc: Global,
+    selected: &TargetsToTellApart<'_>,
+) -> Result<Vec<Fact>, AllocError> {
     let count = selected.targets.len();
     let mut facts: Vec<Fact> = Vec::new(alloc);
     for ((_, fact), place) in &had_facts(alloc, selected)? {
@@ -222,7 +232,7 @@ fn facts_of_file(alloc: Global, selected: &TargetsToTell<'_>) -> Result<Vec<Fact
 }
 
 /// Returns the candidate facts of known targets, in the order in which they are tried.
-fn known_facts(alloc: Global, selected: &TargetsToTell<'_>) -> Result<Vec<Fact>, AllocError> {
+fn known_facts(alloc: Global, selected: &TargetsToTellApart<'_>) -> Result<Vec<Fact>, AllocError> {
     let mut facts = Vec::new(alloc);
     for known in SingleFactConditions::new(alloc)?.facts() {
         let fact = known.fact.clone(alloc)?;
@@ -235,7 +245,7 @@ fn known_facts(alloc: Global, selected: &TargetsToTell<'_>) -> Result<Vec<Fact>,
 /// Returns the candidate facts, in the order in which they are tried.
 pub fn candidate_facts(
     alloc: Global,
-    selected: &TargetsToTell<'_>,
+    selected: &TargetsToTellApart<'_>,
 ) -> Result<Vec<Fact>, AllocError> {
     match selected.targets.first() {
         Some(first) if first.row.is_some() => facts_of_file(alloc, selected),
@@ -255,7 +265,7 @@ fn mark(at: &mut Vec<bool>, place: usize) {
 /// for none.
 pub fn simple_condition(
     alloc: Global,
-    selected: &TargetsToTell<'_>,
+    selected: &TargetsToTellApart<'_>,
     facts: &[Fact],
     set: TargetSet,
 ) -> Result<Option<Platform>, AllocError> {
@@ -344,7 +354,7 @@ fn all_at(facts: &[Fact], literals: &[Literal], target: usize) -> bool {
 /// parts, each an `all(..)` of facts and negated facts.
 pub fn covering(
     alloc: Global,
-    selected: &TargetsToTell<'_>,
+    selected: &TargetsToTellApart<'_>,
     facts: &[Fact],
     set: TargetSet,
 ) -> Result<Option<Platform>, AllocError> {

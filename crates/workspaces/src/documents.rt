@@ -11,8 +11,8 @@ use toml::Table;
 /// The name of the table that the manifest of a root has, and of the field by which a member names its root.
 const WORKSPACE: &str = "workspace";
 
-/// The text of a manifest with its table. Unlike `manifests::Document`, it has no places of names, which only `lint`
-/// needs.
+/// A manifest that was read and parsed: its text and its table. Unlike `manifests::document::Document`, it has no
+/// places of names, since the members of a workspace are found without them.
 #[derive(Drop)]
 pub struct Document {
     /// The text of the file.
