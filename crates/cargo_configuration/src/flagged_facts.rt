@@ -37,10 +37,10 @@ impl RustflagsFacts {
         }
     }
 
-    /// Returns the facts `added`, followed by these.
+    /// Returns the facts `added`, with these after them.
     ///
     /// Fails only if an allocation fails.
-    pub fn behind<'a>(
+    pub fn after<'a>(
         &'a self,
         alloc: Global,
         added: &[&'a str],
@@ -99,7 +99,7 @@ fn are_of(
     let Some(known) = known else {
         return Ok(key.as_str() == target.name);
     };
-    let added = known.behind(alloc, target.added)?;
+    let added = known.after(alloc, target.added)?;
     match applies(alloc, key.as_str(), target.name, target.facts_from, &added) {
         Ok(applies) => Ok(applies),
         Err(QueryError::Unusable(_)) => Ok(false),

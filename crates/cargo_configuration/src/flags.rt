@@ -24,7 +24,7 @@ const BUILD_VARIABLE: &str = "CARGO_BUILD_RUSTFLAGS";
 /// The field with flags.
 const RUSTFLAGS: &str = "rustflags";
 
-/// The flags of one place.
+/// Flags of rustc that are set in one place: in a variable of the environment, or in a field of a configuration file.
 #[derive(Drop)]
 pub struct Flags {
     /// The place: the name of a variable, or the path of a field.
@@ -238,7 +238,7 @@ fn file_flags<R: Files + Input + Env + AllocGlobal>(
 ) -> Result<Vec<Flags>, QueryError> {
     let alloc = rt.alloc();
     let mut found = Vec::new(alloc);
-    let mut files = UnreadFiles::current(rt)?;
+    let mut files = UnreadFiles::in_current_folder(rt)?;
     for _ in 0..MAX_FILES {
         let Some(configuration) = files.read_next(rt, limit)? else {
             return Ok(found);
@@ -249,7 +249,9 @@ fn file_flags<R: Files + Input + Env + AllocGlobal>(
     Ok(found)
 }
 
-/// The flags that are set in the current folder, but for those of a variable that is set for one target.
+/// The flags of rustc in the current folder that are read once for all targets. Where some belong to a key of `target`,
+/// `Flags::key` is that key. The flags of a variable `CARGO_TARGET_<triple>_RUSTFLAGS` are not among them: `of_target`
+/// reads them.
 #[derive(Drop)]
 pub struct SharedRustflags {
     pub flags: Vec<Flags>,
@@ -282,7 +284,8 @@ impl SharedRustflags {
         })
     }
 
-    /// Returns the flags of the variable that counts beside `target.<triple>.rustflags`, if it is set and counts.
+    /// Reads the flags of the variable `CARGO_TARGET_<triple>_RUSTFLAGS` of a target, which count in addition to
+    /// `target.<triple>.rustflags`. Returns none if it is not set, or if another variable takes precedence.
     pub fn of_target<R: Env + AllocGlobal>(
         &self,
         rt: &R,

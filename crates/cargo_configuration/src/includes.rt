@@ -32,7 +32,9 @@ impl UnreadFiles {
     /// Returns the configurations that Cargo reads in the current folder.
     ///
     /// Fails only if an allocation fails.
-    pub fn current<R: Files + Env + AllocGlobal>(rt: &R) -> Result<UnreadFiles, AllocError> {
+    pub fn in_current_folder<R: Files + Env + AllocGlobal>(
+        rt: &R,
+    ) -> Result<UnreadFiles, AllocError> {
         let mut paths = current_configurations(rt)?;
         paths.reverse();
         Ok(UnreadFiles { paths })

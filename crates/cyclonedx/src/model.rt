@@ -98,7 +98,7 @@ pub struct SpdxExpression {
     pub expression: String,
 }
 
-/// Any other licence.
+/// A licence that is given by a text, which is not an expression of known licences.
 #[derive(Drop, Serialize)]
 pub struct NamedLicence<'a> {
     pub license: LicenceName<'a>,

@@ -4,7 +4,7 @@ use crate::lock::{LockFile, LockedPackage};
 use std::alloc::{AllocError, Global};
 use toml::{Table, Value, table_from_str};
 
-/// An error of a lock file.
+/// What is wrong with the text of a lock file, and where.
 #[derive(Drop)]
 pub struct LockFileFault {
     pub message: String,
@@ -12,7 +12,7 @@ pub struct LockFileFault {
     pub span: Option<(usize, usize)>,
 }
 
-/// The reason why a text cannot be read as a lock file.
+/// The reason why a text was not read as a lock file: its fault, or a failed allocation.
 #[derive(Drop)]
 pub enum LockFileError {
     Fault(LockFileFault),

@@ -7,8 +7,8 @@ ghost use Rattle.cyclonedx.specs.Serials.{name_based};
 use std::alloc::{AllocError, Global};
 use uuid::Uuid;
 
-/// The name space of documents: the version 5 UUID of the URL `http://cyclonedx.org/schema/bom-1.5.schema.json` of
-/// their schema, in the name space of URLs.
+/// The name space in which serial numbers are made. It is itself a version 5 UUID: that of the URL of the schema,
+/// `http://cyclonedx.org/schema/bom-1.5.schema.json`, in the name space of URLs.
 pub const NAME_SPACE: [u8; 16] = [
     0x53, 0x9f, 0x76, 0xe6, 0xc7, 0xf8, 0x5d, 0xf1, 0xad, 0x32, 0xf0, 0xa0, 0x8c, 0x83, 0x38, 0x54,
 ];

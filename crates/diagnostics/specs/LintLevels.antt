@@ -11,7 +11,7 @@ use Rattle.diagnostics.specs.declared.level_rules.LintLevel.TheVariants as setti
 use Rattle.diagnostics.specs.declared.level_rules.Subject.{Subject}
 use Rattle.diagnostics.specs.declared.level_rules.Subject.TheVariants as subject
 use Rattle.diagnostics.specs.declared.level_rules.Rule.{Rule}
-use Rattle.diagnostics.specs.declared.level_rules.Occurrence.{Occurrence}
+use Rattle.diagnostics.specs.declared.level_rules.RuleInput.{RuleInput}
 
 -- the level of a diagnostic to which a rule with this setting applies
 abbrev pub level_set : LintLevel → DiagnosticLevel
@@ -55,6 +55,6 @@ Fails None w = ⊥
 Fails (Some least) w = severity least ≤ severity w
 
 -- the rule applies to a diagnostic that would be reported without any rule
-abbrev pub IsNeeded : Rule → List Occurrence → Type 0
-IsNeeded rule found = (it : Occurrence) × Contains found it × (it.level ≢ level.Allowed)
+abbrev pub IsNeeded : Rule → List RuleInput → Type 0
+IsNeeded rule found = (it : RuleInput) × Contains found it × (it.level ≢ level.Allowed)
     × Hears rule (lint_word it.lint) (option_map (λ k. k.now) it.key) it.level

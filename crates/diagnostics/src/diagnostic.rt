@@ -4,7 +4,7 @@ ghost use Rattle.std.specs.Prelude.{◌↔◌, ◌≡◌};
 ghost use Rattle.key_answers.specs.declared.answer.Status.TheVariants.{Fine, Found};
 ghost use Rattle.diagnostics.specs.LintLevels.{Fails};
 
-use crate::level_rules::{DiagnosticLevel, Occurrence};
+use crate::level_rules::{DiagnosticLevel, RuleInput};
 use cargo_platform::printable_excerpt;
 use key_answers::answer::Status;
 use manifest_lints_findings::{Children, KeyLint, Level, Lint};
@@ -66,9 +66,9 @@ impl Diagnostic {
     }
 
     /// Returns what rules see of the diagnostic, or `None` if rules cannot change its level.
-    pub fn occurrence(&self) -> Option<Occurrence<'_>> {
+    pub fn rule_input(&self) -> Option<RuleInput<'_>> {
         match self.lint {
-            Some(lint) => Some(Occurrence {
+            Some(lint) => Some(RuleInput {
                 lint,
                 key: self.key(),
                 level: self.level,
@@ -172,11 +172,11 @@ pub fn end_of(text: &str, at: Location) -> Position {
         line: at.line,
         column: at.column,
     };
-    start.behind(at.span.text_in(text).unwrap_or(""))
+    start.after(at.span.text_in(text).unwrap_or(""))
 }
 
 /// Returns the level of a diagnostic for a finding of this level, if no rule applies to the diagnostic.
-pub fn lint_level(level: Level) -> DiagnosticLevel {
+pub fn level_of_finding(level: Level) -> DiagnosticLevel {
     match level {
         Level::Error => DiagnosticLevel::Error,
         Level::Warning => DiagnosticLevel::Warning,
@@ -188,7 +188,7 @@ pub fn lint_level(level: Level) -> DiagnosticLevel {
 pub fn default_level(lint: Lint, level: Level) -> DiagnosticLevel {
     match lint {
         Lint::Key(KeyLint::NotCanonical) => DiagnosticLevel::Allowed,
-        _ => lint_level(level),
+        _ => level_of_finding(level),
     }
 }
 

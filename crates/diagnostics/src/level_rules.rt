@@ -6,7 +6,7 @@ ghost use Rattle.diagnostics.specs.LintLevels.{level_set, severity, IsAbout, IsM
 
 use manifest_lints_findings::Lint;
 
-/// The level of a diagnostic.
+/// The level of a diagnostic, before or after rules apply. Unlike a `Level`, it may be that nothing is reported.
 #[derive(Clone, Copy, Debug, PartialEq, Eq, Drop)]
 pub enum DiagnosticLevel {
     /// The diagnostic is not reported.
@@ -110,7 +110,7 @@ pub struct Rule {
 
 /// A diagnostic, as rules see it.
 #[derive(Clone, Copy, Drop)]
-pub struct Occurrence<'a> {
+pub struct RuleInput<'a> {
     pub lint: Lint,
     /// The key of `target` that the diagnostic is about, if there is one.
     pub key: Option<&'a str>,
@@ -120,7 +120,7 @@ pub struct Occurrence<'a> {
 
 impl Rule {
     /// Returns whether the rule's subject includes a diagnostic that has the level `level` after the rules before.
-    fn is_about(&self, found: &Occurrence<'_>, level: DiagnosticLevel) -> bool
+    fn is_about(&self, found: &RuleInput<'_>, level: DiagnosticLevel) -> bool
         ensures { IsTrue result ↔ IsAbout self.now.subject (lint_word found.now.lint) level }
     {
         match &self.subject {
@@ -144,7 +144,7 @@ fn is_meant(meant: &Option<String>, key: Option<&str>) -> bool
 
 impl Rule {
     /// Returns whether the rule applies to a diagnostic that has the level `level` after the rules before.
-    pub fn applies_to(&self, found: &Occurrence<'_>, level: DiagnosticLevel) -> bool
+    pub fn applies_to(&self, found: &RuleInput<'_>, level: DiagnosticLevel) -> bool
         ensures { IsTrue result
             ↔ Hears self.now (lint_word found.now.lint) (option_map (λ k. k.now) found.now.key) level }
     {
@@ -154,7 +154,7 @@ impl Rule {
 
 /// Returns the level of a diagnostic after the rules. They apply in their order: each sets the level if it applies to
 /// the diagnostic at the level that it has by then.
-pub fn level_by(rules: &[Rule], found: &Occurrence<'_>) -> DiagnosticLevel
+pub fn level_after(rules: &[Rule], found: &RuleInput<'_>) -> DiagnosticLevel
     ensures { Makes (lint_word found.now.lint) (option_map (λ k. k.now) found.now.key) found.now.level
         rules.now result }
 {
@@ -169,7 +169,7 @@ pub fn level_by(rules: &[Rule], found: &Occurrence<'_>) -> DiagnosticLevel
 
 impl Rule {
     /// Returns whether the rule applies to one of the diagnostics that would be reported without any rule.
-    pub fn is_needed(&self, found: &[Occurrence<'_>]) -> bool
+    pub fn is_needed(&self, found: &[RuleInput<'_>]) -> bool
         ensures { IsTrue result ↔ IsNeeded self.now found.now }
     {
         for it in found {
@@ -183,22 +183,22 @@ impl Rule {
 
 /// Returns the level of a diagnostic after the rules of a workspace, then those of its package, and then those of a
 /// command line, which take precedence.
-pub fn level_by_each(
+pub fn level_after_all(
     of_workspace: &[Rule],
     of_package: &[Rule],
     of_command: &[Rule],
-    found: &Occurrence<'_>,
+    found: &RuleInput<'_>,
 ) -> DiagnosticLevel
     ensures { Makes (lint_word found.now.lint) (option_map (λ k. k.now) found.now.key) found.now.level
         (of_workspace.now ++ (of_package.now ++ of_command.now)) result }
 {
-    let by_workspace = Occurrence {
-        level: level_by(of_workspace, found),
+    let by_workspace = RuleInput {
+        level: level_after(of_workspace, found),
         ..*found
     };
-    let by_package = Occurrence {
-        level: level_by(of_package, &by_workspace),
+    let by_package = RuleInput {
+        level: level_after(of_package, &by_workspace),
         ..*found
     };
-    level_by(of_command, &by_package)
+    level_after(of_command, &by_package)
 }

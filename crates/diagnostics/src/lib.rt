@@ -21,7 +21,7 @@ pub use diagnostic::{
 };
 pub use failures::{diagnostic_of_failure, diagnostic_of_key, diagnostic_of_syntax};
 pub use level_rules::{
-    DiagnosticLevel, LintLevel, Occurrence, Rule, Subject, level_by, level_by_each,
+    DiagnosticLevel, LintLevel, Rule, RuleInput, Subject, level_after, level_after_all,
 };
 pub use removals::list_entry_removals;
 pub use rendering::{coloured, push_rendered};

@@ -2,7 +2,7 @@
 
 use crate::diagnostic::{Diagnostic, EmittedDiagnostic, level_word};
 use crate::level_rules::DiagnosticLevel;
-use crate::source_lines::{CUT, Window};
+use crate::source_lines::{CUT_MARK, Window};
 use manifest_lints_findings::Children;
 use manifests::key_locations::Location;
 use std::alloc::{AllocError, Global};
@@ -219,7 +219,7 @@ fn push_between(
             push_row(output, alloc, number.as_str(), line.as_str())
         }
         _ => {
-            output.push_str(CUT)?;
+            output.push_str(CUT_MARK)?;
             output.push_str("\n")
         }
     }

@@ -85,7 +85,7 @@ fn spelled(alloc: Global, lint: Option<Lint>, suggestion: &str) -> Result<String
 fn place_of_removal(alloc: Global, text: &str, at: Location) -> Result<Location, AllocError> {
     let removals = list_entry_removals(alloc, text, &[at.span])?;
     let span = removals.first().copied().unwrap_or(at.span);
-    let start = Position::START.behind(text.get(..span.start).unwrap_or(""));
+    let start = Position::START.after(text.get(..span.start).unwrap_or(""));
     Ok(Location {
         span,
         line: start.line,

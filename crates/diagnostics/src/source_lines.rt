@@ -11,8 +11,8 @@ const WIDTH: usize = 136;
 /// The number of characters before a place in a line that is cut.
 const BEFORE: usize = 40;
 
-/// The text in place of what is cut.
-pub const CUT: &str = "...";
+/// The text that stands in place of what is cut from a line.
+pub const CUT_MARK: &str = "...";
 
 /// The displayed part of a line.
 #[derive(Clone, Copy, Drop)]
@@ -115,8 +115,8 @@ impl Window {
     pub fn printable_line(&self, alloc: Global, text: &str) -> Result<String, AllocError> {
         let line = text.get(self.start..self.end).unwrap_or("");
         let line = shown_line(alloc, without_return(line))?;
-        let before = if self.is_cut_before { CUT } else { "" };
-        let after = if self.is_cut_after { CUT } else { "" };
+        let before = if self.is_cut_before { CUT_MARK } else { "" };
+        let after = if self.is_cut_after { CUT_MARK } else { "" };
         format!(in alloc; "{before}{line}{after}")
     }
 
@@ -131,7 +131,7 @@ impl Window {
         let before = shown_line(alloc, text.get(self.start..end).unwrap_or(""))?;
         let columns = columns_of(before.as_str());
         if self.is_cut_before {
-            return Ok(columns.saturating_add(CUT.len()));
+            return Ok(columns.saturating_add(CUT_MARK.len()));
         }
         Ok(columns)
     }

@@ -46,7 +46,7 @@ fn unknown_targets(
             let message = format!(in alloc;
                 "no target that rustc {RUSTC_VERSION} knows is named `{shown}`{meant}"
             )?;
-            let rendered = source.report(alloc, DiagnosticLevel::Error, *at, message)?;
+            let rendered = source.render(alloc, DiagnosticLevel::Error, *at, message)?;
             text.push_str(rendered.as_str())?;
         }
     }

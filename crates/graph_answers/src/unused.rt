@@ -35,7 +35,7 @@ fn report_entry(
         answer.raise(Status::Found);
     }
     let message = String::from_str(alloc, message)?;
-    let text = policy.source.report(alloc, level, at, message)?;
+    let text = policy.source.render(alloc, level, at, message)?;
     push(&mut answer.errors, text.as_str())
 }
 

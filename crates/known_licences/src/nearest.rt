@@ -8,7 +8,7 @@ use crate::identifiers::{exceptions, first_licences, other_licences};
 use std::alloc::{AllocError, Global};
 use strsim::osa_distance;
 
-/// A listed identifier, and how many edits make it of a text.
+/// A listed identifier that is near a text, and how many edits turn the text into it.
 #[derive(Clone, Copy, Drop)]
 pub struct Near {
     pub name: &'static str,

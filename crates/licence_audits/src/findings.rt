@@ -7,7 +7,7 @@ ghost use Rattle.licence_audits.specs.Findings.{HasFinding};
 use spdx_expressions::{Licence, LicenceExpression, ParseError, ReadError};
 use std::alloc::{AllocError, Global};
 
-/// Why the list of allowed licences does not satisfy a package's licence.
+/// The reason why the list of allowed licences does not satisfy a package's licence.
 #[derive(Debug, Drop)]
 pub enum Finding {
     /// The text is an expression that the list does not satisfy.

@@ -95,8 +95,8 @@ fn needs_exception(
     }
 }
 
-/// Returns whether entries of a list are unused: no package that is to be audited has a licence that one of them
-/// allows.
+/// Returns whether an entry of a list is unused: no package that is to be audited has a licence that it allows.
+/// `entries` is that entry, or several that are only unused together.
 ///
 /// # Errors
 ///

@@ -118,7 +118,7 @@ impl PolicySource {
 
     /// Returns a diagnostic with this message, at this place if it is known, as rustc prints it. Fails if an allocation
     /// fails.
-    pub fn report(
+    pub fn render(
         &self,
         alloc: Global,
         level: DiagnosticLevel,

@@ -140,7 +140,7 @@ impl Reader {
             line: at.line,
             column: at.column,
         };
-        let start = start.behind(front.text_in(source).unwrap_or(""));
+        let start = start.after(front.text_in(source).unwrap_or(""));
         Ok(Location {
             span,
             line: start.line,

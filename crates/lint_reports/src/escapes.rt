@@ -48,8 +48,8 @@ pub fn uri_of(alloc: Global, path: &str) -> Result<String, AllocError> {
     Ok(uri)
 }
 
-/// Returns a text as a message of SARIF has it. Braces are doubled there, since `{0}` stands for an argument. Fails if
-/// memory is refused.
+/// Returns a text with its braces doubled, as a message of SARIF has to have it, where `{0}` stands for an argument.
+/// Fails if memory is refused.
 pub fn braced(alloc: Global, text: &str) -> Result<String, AllocError> {
     let mut message = String::new(alloc);
     for c in text.chars() {

@@ -6,7 +6,7 @@ use former_names::{
     Release, RemovalReleases, Verdict, current_name, former_fact, former_target, has_former_value,
 };
 use manifest_lints_findings::{Children, Level, Lint, Site, TableDiagnostic};
-use manifests::{ExpectedCfgs, Targets, target_keys};
+use manifests::{ExpectedCfgs, TargetValue, target_keys};
 use predicate_classes::key_spans::spans_of;
 use std::alloc::{AllocError, Global};
 use toml::Table;
@@ -295,7 +295,7 @@ impl FormerNames {
             facts: Vec::new(alloc),
             targets: Vec::new(alloc),
         };
-        let Targets::Keys(mut keys) = target_keys(alloc, manifest)? else {
+        let TargetValue::Keys(mut keys) = target_keys(alloc, manifest)? else {
             return Ok(formers);
         };
         keys.retain(|key| may_have(key.key));

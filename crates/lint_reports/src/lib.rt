@@ -17,6 +17,6 @@ pub use counts::Counts;
 pub use fields::wrong_fields;
 pub use formats::{Format, Printer, Style};
 pub use formers::{FormerNames, ToolchainSettings};
-pub use on_keys::{diagnostic_of, diagnostic_of_wrong};
+pub use on_keys::{diagnostic_of, diagnostic_of_misplaced};
 pub use on_rules::{diagnostic_of_fault, diagnostic_of_unneeded};
 pub use settings::{CustomTarget, Settings, SettingsError, SettingsErrorAt};

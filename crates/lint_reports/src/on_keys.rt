@@ -301,7 +301,7 @@ fn owned(alloc: Global, text: Option<&str>) -> Result<Option<String>, AllocError
 }
 
 /// Returns the diagnostic for a name in a wrong place. Fails if memory is refused.
-pub fn diagnostic_of_wrong(
+pub fn diagnostic_of_misplaced(
     alloc: Global,
     locations: &SourceMap,
     wrong: &TableDiagnostic,

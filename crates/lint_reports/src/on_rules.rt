@@ -1,7 +1,9 @@
 //! Diagnostics on the rules in a manifest that are invalid, or that nothing needs.
 
 use crate::codes::{UnknownLint, unknown_subject};
-use crate::settings::{SettingsError, SettingsErrorAt, TOOL, UNDERSCORED_TOOL, WORDS, is_fact};
+use crate::settings::{
+    SETTINGS_BY_NAME, SettingsError, SettingsErrorAt, TOOL, UNDERSCORED_TOOL, is_fact,
+};
 use cargo_platform::{inside_cfg, printable_excerpt};
 use diagnostics::{Diagnostic, Rule, default_level};
 use manifest_lints_findings::{Children, Lint, near};
@@ -67,7 +69,7 @@ fn no_fact(alloc: Global, text: &str) -> Result<Wrong, AllocError> {
 fn unknown_word(alloc: Global, word: &str) -> Result<Wrong, AllocError> {
     let shown = printable_excerpt(alloc, word)?;
     let message = format!(in alloc; "unknown setting: `{shown}`")?;
-    match near(word, &WORDS) {
+    match near(word, &SETTINGS_BY_NAME) {
         Some(meant) => Wrong::or_meant(alloc, message, meant),
         None => Ok(Wrong::alone(alloc, message)),
     }

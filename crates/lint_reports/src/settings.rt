@@ -53,8 +53,15 @@ pub enum SettingsError {
 /// The name of the table of rules with an underscore, under which nothing is read.
 pub const UNDERSCORED_TOOL: &str = "manifest_check";
 
-/// The settings by name.
-pub const WORDS: [&str; 6] = ["allow", "warn", "deny", KNOWN_TARGETS, KNOWN_FACTS, RUSTC];
+/// The names of all settings in a table of rules.
+pub const SETTINGS_BY_NAME: [&str; 6] = [
+    "allow",
+    "warn",
+    "deny",
+    KNOWN_TARGETS,
+    KNOWN_FACTS,
+    RUSTC,
+];
 
 /// An error in a table of rules, with its place in the table.
 #[derive(Drop)]
@@ -140,7 +147,7 @@ fn texts_at<'a>(table: &'a Table, word: &str) -> &'a [Value] {
 
 /// Returns whether a setting has this name.
 fn is_word(word: &str) -> bool {
-    WORDS.contains(&word)
+    SETTINGS_BY_NAME.contains(&word)
 }
 
 /// Returns the lint that an entry of a list names, and the key if it has one.

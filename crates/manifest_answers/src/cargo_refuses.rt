@@ -1,6 +1,6 @@
 //! Finds what Cargo rejects in the tables of dependencies of a manifest, and in the fields that it inherits.
 
-use crate::dependency_rules::{CheckedDependency, WorkspaceRoot, rejected_dependency};
+use crate::dependency_rules::{CheckedDependency, WorkspaceRoot, rejection_reason};
 use cargo_platform::printable_excerpt;
 use input_limits::strip_byte_order_mark;
 use manifest_lints_findings::{Level, format_table_name, table_diagnostics};
@@ -122,7 +122,7 @@ fn first_in(
             kind,
             is_of_2024: place.is_of_2024,
         };
-        if let Some(reason) = rejected_dependency(alloc, &ruled, inheriting)? {
+        if let Some(reason) = rejection_reason(alloc, &ruled, inheriting)? {
             return Ok(Some(at_dependency(alloc, place, name, kind, reason.as_str())?));
         }
     }

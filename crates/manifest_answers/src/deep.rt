@@ -11,7 +11,7 @@ ghost use Rattle.manifest_answers.specs.Deep.{HasNoDeepKey, IsShallowEntry};
 use cargo_platform::printable_excerpt;
 use input_limits::{too_deep_at, too_deep_message};
 use manifests::reading::Manifest;
-use manifests::{TargetKey, Targets, target_keys};
+use manifests::{TargetKey, TargetValue, target_keys};
 use std::alloc::{AllocError, Global};
 use toml::Table;
 
@@ -81,8 +81,8 @@ fn deep_key(
 /// Returns whether some key of the manifest with this table is nested too deeply.
 pub(crate) fn has_deep(alloc: Global, manifest: &Table) -> Result<bool, AllocError> {
     match target_keys(alloc, manifest)? {
-        Targets::Keys(keys) => Ok(deep_of(&keys).is_some()),
-        Targets::NoTable | Targets::Absent => Ok(false),
+        TargetValue::Keys(keys) => Ok(deep_of(&keys).is_some()),
+        TargetValue::NoTable | TargetValue::Absent => Ok(false),
     }
 }
 
@@ -93,10 +93,10 @@ pub fn first_too_deep_key(alloc: Global, manifest: &Manifest) -> Result<Option<D
         (λ found. IfNone found (HasNoDeepKey (target_of (table_view manifest.now.document.table)))) }
 {
     match target_keys(alloc, &manifest.document.table)? {
-        Targets::Keys(keys) => match deep_of(&keys) {
+        TargetValue::Keys(keys) => match deep_of(&keys) {
             Some((key, at)) => Ok(Some(deep_key(alloc, manifest, key, at)?)),
             None => Ok(None),
         },
-        Targets::NoTable | Targets::Absent => Ok(None),
+        TargetValue::NoTable | TargetValue::Absent => Ok(None),
     }
 }

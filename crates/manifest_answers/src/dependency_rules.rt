@@ -274,7 +274,7 @@ fn bad_fields(
 /// declares has been put in place of what it inherits.
 ///
 /// Fails only if an allocation fails.
-pub fn rejected_dependency(
+pub fn rejection_reason(
     alloc: Global,
     ruled: &CheckedDependency<'_>,
     inheriting: WorkspaceRoot<'_>,

@@ -68,19 +68,19 @@ fn features_of<'d>(alloc: Global, declared: Option<&'d Value>) -> Result<Vec<&'d
 }
 
 /// Returns the number of the line on which a key of `target` occurs first.
-pub fn first_line(document: &Document, key: &str) -> Option<usize> {
+pub fn first_line_of_key(document: &Document, key: &str) -> Option<usize> {
     let at = document.locations.location_of_key(key)?;
     Some(at.line)
 }
 
 /// Returns the number of the line on which the key of a dependency occurs first.
 fn line_of(document: &Document, dependency: &Dependency<'_>) -> Option<usize> {
-    first_line(document, dependency.key?)
+    first_line_of_key(document, dependency.key?)
 }
 
 /// The declaration of a dependency in a manifest, beside its name.
 #[derive(Drop)]
-pub struct Described<'d> {
+pub struct Declaration<'d> {
     /// The name of the package, if the dependency is renamed.
     pub package: Option<&'d str>,
     pub version: Option<&'d str>,
@@ -89,15 +89,15 @@ pub struct Described<'d> {
     pub line: Option<usize>,
 }
 
-impl<'d> Described<'d> {
+impl<'d> Declaration<'d> {
     /// Returns the declaration of this dependency.
     pub fn of(
         alloc: Global,
         document: &'d Document,
         dependency: &Dependency<'_>,
-    ) -> Result<Described<'d>, AllocError> {
+    ) -> Result<Declaration<'d>, AllocError> {
         let declared = declared_value(document, dependency);
-        Ok(Described {
+        Ok(Declaration {
             package: text_at(declared, "package"),
             version: version_of(declared),
             source: source_of(declared),

@@ -240,7 +240,7 @@ impl GivenTargets {
         match self.by_name(alloc, name)? {
             Some(row) => Ok(row),
             None => {
-                let message = self.unknown(alloc, name)?;
+                let message = self.unknown_message(alloc, name)?;
                 let line = format!(in alloc; "error: {message}\n")?;
                 Err(QueryError::Unusable(line))
             }
@@ -253,7 +253,7 @@ impl GivenTargets {
     }
 
     /// Returns the message for a name that no target has, with the nearest one.
-    pub fn unknown(&self, alloc: Global, name: &str) -> Result<String, AllocError> {
+    pub fn unknown_message(&self, alloc: Global, name: &str) -> Result<String, AllocError> {
         let file = self.file.as_str();
         let shown = format_name(alloc, name)?;
         match self.nearest(alloc, name)? {
@@ -279,7 +279,7 @@ impl GivenTargets {
     /// Returns whether a condition of so many facts is true on no target, and whether it is true on each, whichever
     /// facts with these names and keys are set. With more than `FEW_FACTS` facts, only what each fact says by itself
     /// counts. Fails if memory is refused.
-    pub fn none_and_each<'x>(
+    pub fn nowhere_and_everywhere<'x>(
         &'x self,
         alloc: Global,
         condition: &Platform,

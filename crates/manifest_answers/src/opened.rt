@@ -3,7 +3,7 @@
 use cargo_platform::{Platform, ReadError, values_of};
 use key_answers::printing::format_name;
 use manifest_lints_findings::near;
-use manifests::{Targets, target_keys};
+use manifests::{TargetValue, target_keys};
 use predicate_classes::rustc_names::name_in;
 use std::alloc::{AllocError, Global};
 use toml::Table;
@@ -72,12 +72,12 @@ impl OpenNames {
         }
     }
 
-    /// Records the names in the keys of a manifest.
-    pub fn note(&mut self, alloc: Global, manifest: &Table) -> Result<(), AllocError> {
+    /// Records which of these names the keys of a manifest use.
+    pub fn record_uses(&mut self, alloc: Global, manifest: &Table) -> Result<(), AllocError> {
         if self.names.is_empty() {
             return Ok(());
         }
-        if let Targets::Keys(keys) = target_keys(alloc, manifest)? {
+        if let TargetValue::Keys(keys) = target_keys(alloc, manifest)? {
             for key in &keys {
                 self.note_key(alloc, key.key)?;
             }
@@ -86,7 +86,7 @@ impl OpenNames {
     }
 
     /// Returns the warnings for the names that no key uses, one a line.
-    pub fn unused_names(&self, alloc: Global) -> Result<String, AllocError> {
+    pub fn unused_warnings(&self, alloc: Global) -> Result<String, AllocError> {
         let mut lines = String::new(alloc);
         for opened in &self.names {
             if !opened.is_used {

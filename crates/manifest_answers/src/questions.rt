@@ -132,7 +132,7 @@ fn unknown_in_file(
             return Ok(String::new(alloc));
         }
         let word = KeyLint::UnknownTarget.word();
-        let message = given.unknown(alloc, name.as_str())?;
+        let message = given.unknown_message(alloc, name.as_str())?;
         return format!(in alloc; "warning[{word}]: {message}\n");
     }
     if asks_for_new(alloc, &condition, given)? {
@@ -274,7 +274,7 @@ fn counted_in(
     let mut errors = format!(in alloc; "{count} of {whole} targets of {file}\n")?;
     if let Platform::Name(name) = condition {
         if !given.has_name(name.as_str()) {
-            let message = given.unknown(alloc, name.as_str())?;
+            let message = given.unknown_message(alloc, name.as_str())?;
             let note = format!(in alloc; "note: {message}\n")?;
             errors.push_str(note.as_str())?;
         }
@@ -489,8 +489,7 @@ pub fn match_each_target(
     Ok(answer)
 }
 
-/// Returns whether the key is true on the target with this name, whose facts come from `from`, and those of `added` are
-/// added.
+/// Returns whether the key is true on the target with this name, whose facts come from `from`, with `added` added.
 pub fn applies(
     alloc: Global,
     key: &str,

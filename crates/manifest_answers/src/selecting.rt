@@ -1,7 +1,7 @@
 //! `select`: the dependencies of a manifest that targets select.
 
 use crate::cargo_refuses::Rejected;
-use crate::described::{Described, first_line};
+use crate::described::{Declaration, first_line_of_key};
 use crate::each_manifest::{ManifestQuery, answer_each};
 use crate::faults::{ErrorReporter, Fault, span_of};
 use crate::given_targets::FactsFrom;
@@ -202,7 +202,7 @@ fn push_object<'a>(
     row: &'a DependencyDecision<'a>,
 ) -> Result<(), AllocError> {
     let dependency = &row.dependency;
-    let described = Described::of(alloc, &manifest.document, dependency)?;
+    let described = Declaration::of(alloc, &manifest.document, dependency)?;
     let line = SelectedDependency {
         choice: choice_word(&row.decision),
         dependency: dependency.name,
@@ -280,7 +280,7 @@ fn fault_in<'a, 'm>(
 ) -> Fault<'a, 'm> {
     let (key, span) = key_at_fault(error);
     let line = match key {
-        Some(key) => first_line(&manifest.document, key),
+        Some(key) => first_line_of_key(&manifest.document, key),
         None => None,
     };
     Fault {
@@ -411,7 +411,7 @@ impl<'a> ManifestQuery for Selecting<'a> {
         rejected: &Option<Rejected>,
         whole: &mut Answer,
     ) -> Result<(), AllocError> {
-        self.opened.note(alloc, &manifest.document.table)?;
+        self.opened.record_uses(alloc, &manifest.document.table)?;
         for target in self.targets {
             let mut rows = match self.rows_of(alloc, manifest, target) {
                 Ok(rows) => rows,
@@ -527,8 +527,8 @@ fn add_unused_names(
     alloc: Global,
     opened: &OpenNames,
 ) -> Result<(), AllocError> {
-    let unused_names = opened.unused_names(alloc)?;
-    answer.errors.push_str(unused_names.as_str())
+    let unused_warnings = opened.unused_warnings(alloc)?;
+    answer.errors.push_str(unused_warnings.as_str())
 }
 
 /// Returns the facts that are known of a target.

@@ -3,7 +3,7 @@
 use crate::explaining::{explained_code, listed_codes};
 use crate::graphs::graph_answer;
 use crate::levels::{command_rules, fails_from};
-use crate::limits::{limit_of, reason_in, text_of};
+use crate::limits::{bare_message, limit_of, read_input_text};
 use crate::linting::{LintOptions, lint_each};
 use crate::manifest_paths::{SelectedManifests, find_manifests};
 use crate::other_rustc::OtherRustc;
@@ -35,7 +35,7 @@ fn facts_file<R: Files + Input + AllocGlobal>(
     matches: &ArgMatches<'_>,
 ) -> Result<Option<String>, QueryError> {
     match matches.get_str("facts") {
-        Some(path) => Ok(Some(text_of(rt, path, limit_of(matches))?)),
+        Some(path) => Ok(Some(read_input_text(rt, path, limit_of(matches))?)),
         None => Ok(None),
     }
 }
@@ -49,7 +49,7 @@ fn targets_of_file<R: Files + Input + AllocGlobal>(
         return Ok(None);
     };
     let alloc = rt.alloc();
-    let text = text_of(rt, path, limit_of(matches))?;
+    let text = read_input_text(rt, path, limit_of(matches))?;
     let file = printable_text(alloc, path)?;
     Ok(Some(GivenTargets::of(alloc, file, text.as_str())?))
 }
@@ -178,12 +178,12 @@ fn unusable_targets(
 ) -> Result<InputError, AllocError> {
     if message.starts_with("error: ") {
         return Ok(InputError {
-            reason: String::from_str(alloc, reason_in(message, ""))?,
+            reason: String::from_str(alloc, bare_message(message, ""))?,
             file: None,
         });
     }
     let file = printable_text(alloc, word(matches, "facts-of"))?;
-    let reason = reason_in(message, file.as_str());
+    let reason = bare_message(message, file.as_str());
     Ok(InputError {
         reason: format!(in alloc; "cannot read the targets of `--facts-of`: {reason}")?,
         file: Some(file),

@@ -1,7 +1,7 @@
 //! `graph`: which packages are in a build, and on which targets.
 
 use crate::commands::given_targets;
-use crate::limits::{limit_of, text_at, text_of};
+use crate::limits::{limit_of, read_file_text, read_input_text};
 use crate::locks::{NamedLock, bill_of, lock_of};
 use crate::reports::{Report, report_on};
 use crate::words::command_given;
@@ -73,7 +73,7 @@ fn file_of<'a, R: Files + AllocGlobal>(
     option: &str,
 ) -> Result<OptionFile<'a>, QueryError> {
     match matches.get_str(option) {
-        Some(name) => Ok(Some((name, text_at(rt, name, limit_of(matches))?))),
+        Some(name) => Ok(Some((name, read_file_text(rt, name, limit_of(matches))?))),
         None => Ok(None),
     }
 }
@@ -183,7 +183,7 @@ fn answer_with<R: Files + Input + Env + AllocGlobal>(
         json: matches.get_flag("json"),
         html,
     };
-    match text_of(rt, file, limit_of(matches)) {
+    match read_input_text(rt, file, limit_of(matches)) {
         Ok(text) => {
             let bill = bill_of(matches, seconds, lock);
             let report = report_on(alloc, file, text.as_str(), &arguments, bill)?;

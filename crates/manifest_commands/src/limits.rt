@@ -14,7 +14,7 @@ pub fn limit_of(matches: &ArgMatches<'_>) -> u64 {
 }
 
 /// Returns a message without `FILE: ` and `error: ` at its beginning, and without the line end.
-pub fn reason_in<'a>(message: &'a str, file: &str) -> &'a str {
+pub fn bare_message<'a>(message: &'a str, file: &str) -> &'a str {
     let message = message.strip_suffix("\n").unwrap_or(message);
     let behind = message.strip_prefix(file).unwrap_or(message);
     let reason = behind.strip_prefix(": ").unwrap_or(behind);
@@ -41,7 +41,7 @@ fn text_read(
 }
 
 /// Reads a file, or standard input if its name is `-`. Fails if it has more bytes than the limit.
-pub fn text_of<R: Files + Input + AllocGlobal>(
+pub fn read_input_text<R: Files + Input + AllocGlobal>(
     rt: &R,
     file: &str,
     limit: u64,
@@ -50,7 +50,7 @@ pub fn text_of<R: Files + Input + AllocGlobal>(
 }
 
 /// Reads a file. Fails if it has more bytes than the limit.
-pub fn text_at<R: Files + AllocGlobal>(
+pub fn read_file_text<R: Files + AllocGlobal>(
     rt: &R,
     file: &str,
     limit: u64,

@@ -12,14 +12,14 @@ use cargo_configuration::{
 };
 use cargo_platform::{printable_excerpt, printable_text};
 use diagnostics::{
-    Diagnostic, DiagnosticLevel, EmittedDiagnostic, Occurrence, Rule, level_by_each, status_of,
+    Diagnostic, DiagnosticLevel, EmittedDiagnostic, Rule, RuleInput, level_after_all, status_of,
 };
 use input_limits::{InputError, strip_byte_order_mark};
 use key_answers::answer::{Answer, Status};
 use lint_fixes::{FixOptions, Fixes, fix_file};
 use lint_reports::{
     Counts, FormerNames, Printer, Settings, Style, ToolchainSettings, diagnostic_of,
-    diagnostic_of_fault, diagnostic_of_unneeded, diagnostic_of_wrong, wrong_fields,
+    diagnostic_of_fault, diagnostic_of_misplaced, diagnostic_of_unneeded, wrong_fields,
 };
 use loading::{load_configuration, load_manifest, report_without_place};
 use manifest_lints::{Finding, KeyLint, KnownFacts, Report, lint};
@@ -100,12 +100,12 @@ struct Source<'a> {
 
 /// Returns the level of a diagnostic after the rules. They do not change that of one without a lint.
 fn lint_level(rules: &Rules<'_>, diagnostic: &Diagnostic) -> DiagnosticLevel {
-    match diagnostic.occurrence() {
-        Some(occurrence) => level_by_each(
+    match diagnostic.rule_input() {
+        Some(input) => level_after_all(
             rules.of_workspace,
             rules.of_package,
             rules.of_command,
-            &occurrence,
+            &input,
         ),
         None => diagnostic.level,
     }
@@ -234,8 +234,8 @@ impl<'a> LintRun<'a> {
         found: &[Diagnostic],
     ) -> Result<(), AllocError> {
         let options = self.options;
-        let occurrences = occurrences_in(alloc, found)?;
-        root.note_needed(&occurrences);
+        let rule_inputs = rule_inputs_in(alloc, found)?;
+        root.note_needed(&rule_inputs);
         let rules = Rules {
             of_workspace: &root.settings.rules,
             of_package: &settings.rules,
@@ -247,7 +247,7 @@ impl<'a> LintRun<'a> {
         };
         self.report_each(alloc, &rules, &source, found)?;
         let locations = &manifest.document.locations;
-        let found = found_in_settings(alloc, settings, locations, &occurrences)?;
+        let found = found_in_settings(alloc, settings, locations, &rule_inputs)?;
         self.report_each(alloc, &rules, &source, &found)
     }
 }
@@ -298,16 +298,16 @@ fn faults_in(
     Ok(found)
 }
 
-/// Returns the diagnostics on the rules of a package: the invalid ones, and those that none of `occurrences` needs.
+/// Returns the diagnostics on the rules of a package: the invalid ones, and those that none of `rule_inputs` needs.
 fn found_in_settings(
     alloc: Global,
     settings: &Settings,
     locations: &SourceMap,
-    occurrences: &[Occurrence<'_>],
+    rule_inputs: &[RuleInput<'_>],
 ) -> Result<Vec<Diagnostic>, AllocError> {
     let mut found = faults_in(alloc, settings, locations, PACKAGE)?;
     for rule in &settings.rules {
-        if is_unneeded(rule, rule.is_needed(occurrences)) {
+        if is_unneeded(rule, rule.is_needed(rule_inputs)) {
             found.push(diagnostic_of_unneeded(alloc, locations, PACKAGE, rule)?)?;
         }
     }
@@ -341,14 +341,14 @@ impl<'a> LintRun<'a> {
 }
 
 /// Returns the properties of diagnostics on which rules depend.
-fn occurrences_in(alloc: Global, found: &[Diagnostic]) -> Result<Vec<Occurrence<'_>>, AllocError> {
-    let mut occurrences = Vec::new(alloc);
+fn rule_inputs_in(alloc: Global, found: &[Diagnostic]) -> Result<Vec<RuleInput<'_>>, AllocError> {
+    let mut rule_inputs = Vec::new(alloc);
     for diagnostic in found {
-        if let Some(it) = diagnostic.occurrence() {
-            occurrences.push(it)?;
+        if let Some(it) = diagnostic.rule_input() {
+            rule_inputs.push(it)?;
         }
     }
-    Ok(occurrences)
+    Ok(rule_inputs)
 }
 
 /// Returns whether the settings of a package or of its workspace make a target known, or whether rustc knew it before,
@@ -428,7 +428,7 @@ fn found_in(
         found.push(diagnostic)?;
     }
     for it in &beside.wrong {
-        found.push(diagnostic_of_wrong(alloc, locations, it)?)?;
+        found.push(diagnostic_of_misplaced(alloc, locations, it)?)?;
     }
     Ok(found)
 }
@@ -441,7 +441,7 @@ fn formers_in(
 ) -> Result<Vec<Diagnostic>, AllocError> {
     let mut found = Vec::new(alloc);
     for it in &formers.found {
-        found.push(diagnostic_of_wrong(alloc, locations, it)?)?;
+        found.push(diagnostic_of_misplaced(alloc, locations, it)?)?;
     }
     found.sort_by_key(|it| it.location().map_or(0, |at| at.span.start))?;
     Ok(found)
@@ -575,7 +575,7 @@ fn lint_at<R: Files + Input + Env + AllocGlobal>(
         limit: run.documents.limit,
     };
     let other = root.other.as_ref().or(run.options.other.as_ref());
-    let own = file.rustc_with_targets(rt, &mut settings, other)?;
+    let own = file.add_custom_targets(rt, &mut settings, other)?;
     let other = own.as_ref().or(other);
     add_declared_facts(alloc, other, table)?;
     let project = ToolchainSettings {

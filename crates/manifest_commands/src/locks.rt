@@ -1,7 +1,7 @@
 //! The lock file of `graph --format cyclonedx`.
 
 use crate::VERSION;
-use crate::limits::{limit_of, text_at};
+use crate::limits::{limit_of, read_file_text};
 use cargo_platform::printable_text;
 use clap::ArgMatches;
 use cyclonedx::{LockFile, LockFileError, LockFileFault, parse_lock_file};
@@ -25,7 +25,7 @@ pub struct NamedLock {
 
 /// Returns the place of an error in a lock file.
 fn location_of(text: &str, (start, end): (usize, usize)) -> Location {
-    let position = Position::START.behind(text.get(..start).unwrap_or(""));
+    let position = Position::START.after(text.get(..start).unwrap_or(""));
     Location {
         span: Span { start, end },
         line: position.line,
@@ -80,7 +80,7 @@ pub fn lock_of<R: Files + AllocGlobal>(
     let Some(file) = matches.get_str("lock") else {
         return Ok(None);
     };
-    let read = text_at(rt, file, limit_of(matches))?;
+    let read = read_file_text(rt, file, limit_of(matches))?;
     let text = strip_byte_order_mark(read.as_str());
     let name = printable_text(alloc, file)?;
     match parse_lock_file(alloc, text) {

@@ -109,7 +109,7 @@ impl OtherRustc {
                 added.push(self.unknown(alloc, place, name.as_str())?)?;
             }
         }
-        let (none, each) = self.none_and_each(alloc, condition, declared)?;
+        let (none, each) = self.nowhere_and_everywhere(alloc, condition, declared)?;
         let file = self.given.file.as_str();
         if none && !hides.nowhere && !is_unknown {
             let message = format!(in alloc;
@@ -148,7 +148,7 @@ impl OtherRustc {
     }
 
     /// Returns whether the condition is true on none and on all of its targets, whatever the open names are.
-    fn none_and_each(
+    fn nowhere_and_everywhere(
         &self,
         alloc: Global,
         condition: &Platform,
@@ -161,7 +161,8 @@ impl OtherRustc {
         if open.len() > MANY {
             return Ok((false, false));
         }
-        self.given.none_and_each(alloc, condition, &open, facts)
+        self.given
+            .nowhere_and_everywhere(alloc, condition, &open, facts)
     }
 }
 

@@ -1,6 +1,6 @@
 //! The targets of a project, whose facts are in files that `known-targets` in the metadata names.
 
-use crate::limits::{reason_in, text_at};
+use crate::limits::{bare_message, read_file_text};
 use crate::other_rustc::OtherRustc;
 use cargo_platform::printable_text;
 use key_answers::answer::QueryError;
@@ -29,20 +29,21 @@ impl ManifestFile<'_> {
     ) -> Result<(), QueryError> {
         let alloc = rt.alloc();
         let file = join_path(alloc, folder_of(self.path), target.file.as_str())?;
-        match text_at(rt, file.as_str(), self.limit) {
+        match read_file_text(rt, file.as_str(), self.limit) {
             Ok(text) => given.add(alloc, target.name.as_str(), text.as_str()),
             Err(QueryError::Unusable(message)) => {
                 let shown = printable_text(alloc, file.as_str())?;
-                let reason = reason_in(message.as_str(), shown.as_str());
+                let reason = bare_message(message.as_str(), shown.as_str());
                 Err(QueryError::Unusable(String::from_str(alloc, reason)?))
             }
             Err(QueryError::Memory(refused)) => Err(refused.into()),
         }
     }
 
-    /// Adds the targets in the settings to those of the command line, or else to the known ones. Targets that can't be
-    /// added are recorded in the settings. Returns `None` if the settings have no target whose facts are in a file.
-    pub fn rustc_with_targets<R: Files + AllocGlobal>(
+    /// Returns the targets of the command line, or else the known ones, with those in the settings added. Targets that
+    /// can't be added are recorded in the settings. Returns `None` if the settings have no target whose facts are in a
+    /// file.
+    pub fn add_custom_targets<R: Files + AllocGlobal>(
         self,
         rt: &R,
         settings: &mut Settings,
@@ -64,7 +65,7 @@ impl ManifestFile<'_> {
                 Ok(()) => {}
                 Err(QueryError::Unusable(message)) => {
                     let shown = printable_text(alloc, target.file.as_str())?;
-                    let reason = reason_in(message.as_str(), "");
+                    let reason = bare_message(message.as_str(), "");
                     let reason = format!(in alloc; "cannot use `{shown}`: {reason}")?;
                     settings.reject_target(alloc, target.entry, reason)?;
                 }

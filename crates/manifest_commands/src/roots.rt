@@ -2,7 +2,7 @@
 
 use crate::other_rustc::OtherRustc;
 use crate::project_targets::ManifestFile;
-use diagnostics::{LintLevel, Occurrence, Rule};
+use diagnostics::{LintLevel, Rule, RuleInput};
 use former_names::Release;
 use input_limits::STDIN_PATH;
 use lint_reports::Settings;
@@ -32,7 +32,7 @@ pub struct Root {
 
 /// Returns the table of the manifest of a root, if it has a workspace.
 fn table_of(document: Option<&Document>) -> Option<&Table> {
-    document?.table_with("workspace")
+    document?.table_if_mentioned("workspace")
 }
 
 /// Returns what the manifest of a root sets for its workspace.
@@ -109,8 +109,8 @@ impl Root {
             || is_whole && unneeded.any(|(rule, is_needed)| is_unneeded(rule, *is_needed))
     }
 
-    /// Reads its settings again, from which entries that nothing needs have been removed, with the targets in them, as
-    /// `read_targets` does. Of the rules that are left, those are needed that were needed before.
+    /// Reads its settings again after entries that nothing needs were removed from its file, and then their targets, as
+    /// `read_targets` does. A rule that is left is needed if it was needed before.
     pub fn read_again<R: Files + AllocGlobal>(
         &mut self,
         rt: &R,
@@ -141,7 +141,7 @@ impl Root {
             path: self.file.as_str(),
             limit,
         };
-        self.other = file.rustc_with_targets(rt, &mut self.settings, other)?;
+        self.other = file.add_custom_targets(rt, &mut self.settings, other)?;
         Ok(())
     }
 
@@ -175,7 +175,7 @@ impl Root {
     }
 
     /// Records which of its rules these diagnostics need.
-    pub fn note_needed(&mut self, found: &[Occurrence<'_>]) {
+    pub fn note_needed(&mut self, found: &[RuleInput<'_>]) {
         for (rule, needed) in self.settings.rules.iter().zip(&mut self.needed) {
             if rule.is_needed(found) {
                 *needed = true;

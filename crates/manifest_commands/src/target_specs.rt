@@ -1,6 +1,6 @@
 //! The custom targets that `--target-spec` adds to the known ones, or to those of `--facts-of`.
 
-use crate::limits::{reason_in, text_of};
+use crate::limits::{bare_message, read_input_text};
 use crate::target_names::ALL_TARGETS;
 use cargo_platform::{Platform, printable_text};
 use key_answers::answer::QueryError;
@@ -48,7 +48,7 @@ impl<'a> CustomTarget<'a> {
         given: &mut GivenTargets,
         limit: u64,
     ) -> Result<(), QueryError> {
-        let text = text_of(rt, self.file, limit)?;
+        let text = read_input_text(rt, self.file, limit)?;
         given.add(rt.alloc(), self.name, text.as_str())
     }
 }
@@ -99,7 +99,7 @@ pub fn with_custom_targets<R: Files + Input + AllocGlobal>(
             Ok(()) => {}
             Err(QueryError::Unusable(message)) => {
                 let file = printable_text(alloc, target.file)?;
-                let reason = reason_in(message.as_str(), file.as_str());
+                let reason = bare_message(message.as_str(), file.as_str());
                 return Err(refused(alloc, target.value, reason)?);
             }
             Err(QueryError::Memory(refused)) => return Err(refused.into()),

@@ -33,7 +33,7 @@ use Rattle.exact_answers.specs.Asking.{asks, some_asks}
 use Rattle.exact_answers.specs.Possible.{IsAllowed}
 use Rattle.exact_answers.proofs.Pairs as pairs
 use Rattle.manifest_lints.specs.declared.at_targets.TheConstants.{MAX_OPEN_NAMES, MAX_SPLITS_PER_TARGET}
-use Rattle.manifest_lints.specs.declared.deciding.TheConstants.{FEW}
+use Rattle.manifest_lints.specs.declared.deciding.TheConstants.{MAX_FULLY_SEARCHED_FACTS}
 use Rattle.manifest_lints.specs.declared.deciding.Decided.{Decided}
 use Rattle.manifest_lints.specs.declared.deciding.Decided.TheVariants as decided
 use Rattle.manifest_lints.specs.AtTargets.{KnowsNothing, IsOver, NeedsMoreFree, SaysNeverFree, SaysNeverAt, left_at}
@@ -383,7 +383,7 @@ module _ (truth : Bool) (facts : ℕ) (open_keys : List (List ℕ)) (c : Conditi
     (outside : (k : ℕ) → k < COUNT → is_member set k ≡ false → IsNeverAt truth open_keys c k)
     (all_out : IsNeverByFacts truth open_keys c → (k : ℕ) → k < COUNT → is_member set k ≡ false) where
   pub settles_many : (b : Bool) → (IsTrue b → (k : ℕ) → k < COUNT → is_member set k ≡ false)
-      → (((k : ℕ) → k < COUNT → is_member set k ≡ false) → IsTrue b) → FEW < facts
+      → (((k : ℕ) → k < COUNT → is_member set k ≡ false) → IsTrue b) → MAX_FULLY_SEARCHED_FACTS < facts
       → SettlesOn truth facts open_keys c b
   settles_many b if_yes if_no many = record {
     right = λ h k below. outside k below (if_yes h k below);

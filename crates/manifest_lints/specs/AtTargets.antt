@@ -12,7 +12,7 @@ use Rattle.known_targets.specs.Table.{target_name, target_facts}
 use Rattle.known_targets.specs.declared.table.TheConstants.{COUNT}
 use Rattle.known_targets.specs.declared.target_set.TargetSet.{TargetSet}
 use Rattle.manifest_lints.specs.declared.at_targets.TheConstants.{MAX_OPEN_NAMES, MAX_SPLITS_PER_TARGET}
-use Rattle.manifest_lints.specs.declared.deciding.TheConstants.{FEW}
+use Rattle.manifest_lints.specs.declared.deciding.TheConstants.{MAX_FULLY_SEARCHED_FACTS}
 use Rattle.manifest_lints.specs.declared.deciding.Decided.{Decided}
 use Rattle.manifest_lints.specs.declared.deciding.Decided.TheVariants as decided
 
@@ -95,7 +95,7 @@ IsNeverByFacts false open_keys c =
 pub data MayBeOn (truth : Bool) (facts : ℕ) (open_keys : List (List ℕ)) (c : Condition) : Type 0 where
   at_target : (k : ℕ) → k < COUNT → MayBeAt truth open_keys c k → MayBeOn truth facts open_keys c
   many_open : MAX_OPEN_NAMES < length open_keys → MayBeOn truth facts open_keys c
-  many_facts : FEW < facts → MayBeOn truth facts open_keys c
+  many_facts : MAX_FULLY_SEARCHED_FACTS < facts → MayBeOn truth facts open_keys c
 
 -- an answer to whether a condition of so many facts never has this truth value on a known target is right; it is given
 -- where each fact says so by itself, and where none is given there is a reason

@@ -2,7 +2,7 @@
 use Rattle.std.specs.Prelude.{◌≡◌, [], ◌∷◌, codes, map}
 use Rattle.partial_facts.specs.declared.one_valued.TheConstants.{ONE_VALUED}
 use Rattle.manifest_lints.specs.declared.at_targets.TheConstants.{MAX_OPEN_NAMES, MAX_SPLITS_PER_TARGET}
-use Rattle.manifest_lints.specs.declared.deciding.TheConstants.{FEW, MAX_NESTING, SPLITS}
+use Rattle.manifest_lints.specs.declared.deciding.TheConstants.{MAX_FULLY_SEARCHED_FACTS, MAX_NESTING, SPLITS}
 use Rattle.manifest_lints.specs.declared.earlier.TheConstants.{MAX_COMPARED_KEYS, MAX_COMPARISON_WORK}
 
 -- the keys for which rustc sets at most one value
@@ -26,7 +26,7 @@ AreCompared = (MAX_COMPARED_KEYS ≡ 64) × (MAX_COMPARISON_WORK ≡ 1048576)
 
 -- the number of facts of a condition that are few, and of case splits on a known target
 abbrev pub AreFewAt : Type 0
-AreFewAt = (FEW ≡ 64) × (MAX_SPLITS_PER_TARGET ≡ 64)
+AreFewAt = (MAX_FULLY_SEARCHED_FACTS ≡ 64) × (MAX_SPLITS_PER_TARGET ≡ 64)
 
 -- the number of case splits of a search over sets of facts, for a condition with few facts
 abbrev pub AreSplits : Type 0

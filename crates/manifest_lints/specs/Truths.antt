@@ -6,7 +6,7 @@ use Rattle.exact_answers.specs.declared.fact_constraints.FactConstraints.{FactCo
 use Rattle.exact_answers.specs.Possible.{IsAllowed}
 use Rattle.exact_answers.specs.Asking.{NeedsMore}
 use Rattle.exact_answers.specs.Targets.{ForEach, asked_trees}
-use Rattle.manifest_lints.specs.declared.deciding.TheConstants.{FEW, SPLITS}
+use Rattle.manifest_lints.specs.declared.deciding.TheConstants.{MAX_FULLY_SEARCHED_FACTS, SPLITS}
 use Rattle.manifest_lints.specs.declared.deciding.Decided.{Decided}
 use Rattle.manifest_lints.specs.declared.deciding.Decided.TheVariants as decided
 
@@ -59,7 +59,7 @@ is_unknown decided.Unknown = true
 
 -- the maximum number of case splits in a search for a condition of so many names and pairs
 abbrev pub budget_of : ℕ → ℕ
-budget_of facts = cond (nat_le facts FEW) SPLITS (max (SPLITS * 64 / facts) 8)
+budget_of facts = cond (nat_le facts MAX_FULLY_SEARCHED_FACTS) SPLITS (max (SPLITS * 64 / facts) 8)
 
 -- so many case splits are too few for the condition
 abbrev pub NeedsMoreFor : FactConstraints → Condition → ℕ → Type 0

@@ -8,15 +8,15 @@ ghost use Rattle.known_targets.specs.declared.table.TheConstants.{COUNT};
 ghost use Rattle.manifest_lints.specs.AtTargets.{KnowsNothing, SaysNeverFree, IsNeverAt, SaysNeverAt, MayBeIn};
 ghost use Rattle.manifest_lints.specs.AtTargets.{SettlesOn};
 
-use crate::deciding::{Decided, FEW, is_always, is_never, is_yes};
+use crate::deciding::{Decided, MAX_FULLY_SEARCHED_FACTS, is_always, is_never, is_yes};
 use cargo_platform::{CfgExpr, Platform};
 use exact_answers::FactConstraints;
 use known_targets::{PartialTarget, TargetSet, certainly_matching, possibly_matching};
 use partial_facts::residual_platform;
 use std::alloc::{AllocError, Global};
 
-/// The maximum number of open names and keys of a condition for which it is decided whether it is true on no or every
-/// known target.
+/// How many open names and keys a condition may have. For a condition that has more, it is not decided whether it is
+/// true on no known target, or on every one.
 pub const MAX_OPEN_NAMES: usize = 4096;
 
 /// The maximum number of case splits in a search on one target.
@@ -95,7 +95,7 @@ fn is_nowhere<'a>(
     ensures { IfOk result (SettlesOn true facts (names_of open_keys.now) (condition_of platform.now)) }
 {
     let possible = possibly_matching(alloc, platform, open_keys)?;
-    if facts > FEW {
+    if facts > MAX_FULLY_SEARCHED_FACTS {
         return Ok(possible.is_empty());
     }
     is_never_on(alloc, platform, open_keys, possible, true)
@@ -112,7 +112,7 @@ fn is_everywhere<'a>(
     ensures { IfOk result (SettlesOn false facts (names_of open_keys.now) (condition_of platform.now)) }
 {
     let others = certainly_matching(alloc, platform, open_keys)?.complement();
-    if facts > FEW {
+    if facts > MAX_FULLY_SEARCHED_FACTS {
         return Ok(others.is_empty());
     }
     is_never_on(alloc, platform, open_keys, others, false)
@@ -120,7 +120,8 @@ fn is_everywhere<'a>(
 
 /// Returns whether a condition of so many facts is true on no known target, and whether it is true on every known
 /// target, for all values of the open names and keys. Both are `false` if there are more than `MAX_OPEN_NAMES` of
-/// these. With more than `FEW` facts, only what each fact says by itself counts. Fails if memory is refused.
+/// these. With more than `MAX_FULLY_SEARCHED_FACTS` facts, only what each fact says by itself counts. Fails if memory
+/// is refused.
 #[tactic(auto, using(crate::proofs::AtTargets::settles_none))]
 pub fn nowhere_and_everywhere<'a>(
     alloc: Global,

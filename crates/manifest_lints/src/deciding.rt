@@ -14,15 +14,16 @@ use exact_answers::{
 };
 use std::alloc::{AllocError, Global};
 
-/// The maximum number of case splits in a search for a condition of at most `FEW` facts. With more facts it is lower.
+/// The maximum number of case splits in a search for a condition of at most `MAX_FULLY_SEARCHED_FACTS` facts. With
+/// more facts it is lower.
 const SPLITS: u64 = 1024;
 
 /// The maximum number of facts of a condition that is searched with the whole number of case splits, and on each known
 /// target.
-pub const FEW: usize = 64;
+pub const MAX_FULLY_SEARCHED_FACTS: usize = 64;
 
-/// The maximum number of group members, nested in one another and each followed by others, of a condition that is
-/// searched over sets of facts. The stack has no room for more.
+/// How deep a condition may be nested that is searched over sets of facts. The members of groups that lie in one
+/// another are counted, where each is followed by others. The stack has no room for more.
 pub const MAX_NESTING: usize = 20_000;
 
 /// The answer to a question about a condition.
@@ -71,7 +72,7 @@ pub fn may_search(levels: usize, key: &str) -> bool
 pub fn budget_for(facts: usize) -> u64
     ensures { result ≡ budget_of facts }
 {
-    if facts <= FEW {
+    if facts <= MAX_FULLY_SEARCHED_FACTS {
         return SPLITS;
     }
     (SPLITS * 64 / (facts as u64)).max(8)

@@ -22,8 +22,9 @@ use std::collections::BTreeMap;
 /// The maximum number of keys of its class that a key is compared with.
 pub const MAX_COMPARED_KEYS: usize = 64;
 
-/// The maximum product of the number of keys before a key and the bytes of them and the key, for which the key is
-/// compared with others. So all comparisons together read a bounded number of bytes. Real manifests stay far below it.
+/// How much work the comparison of a key with earlier keys may be. The work is a product: the number of keys before it,
+/// times the bytes of those keys and of the key itself. A key of more work is not compared with others. So all
+/// comparisons together read a bounded number of bytes. Real manifests stay far below this.
 pub const MAX_COMPARISON_WORK: usize = 1_048_576;
 
 /// Returns whether a key is not compared with the `count` keys before it, because there are too many of them for so

@@ -20,7 +20,7 @@ use manifest_lints_findings::making::finding_on;
 use manifest_lints_findings::readings::ReadKey;
 use manifest_lints_findings::{Finding, KEY_LINTS, KeyLint, KnownFacts, Report};
 use manifests::document::Document;
-use manifests::{ExpectedCfgs, TargetKey, Targets};
+use manifests::{ExpectedCfgs, TargetKey, TargetValue};
 use std::alloc::{AllocError, Global};
 
 /// Returns the earlier key that is the same or equivalent, or the empty text if there is none.
@@ -202,9 +202,9 @@ pub fn lint<'a>(
         (λ r. IsReport (table_view document.now.table) (target_of (table_view document.now.table)) r) }
 {
     match document.target_keys(alloc)? {
-        Targets::Keys(keys) => report_on(alloc, &document.table, &keys, known_facts),
-        Targets::Absent => Ok(report_of(alloc, Vec::new(alloc))),
-        Targets::NoTable => {
+        TargetValue::Keys(keys) => report_on(alloc, &document.table, &keys, known_facts),
+        TargetValue::Absent => Ok(report_of(alloc, Vec::new(alloc))),
+        TargetValue::NoTable => {
             let mut findings = Vec::new(alloc);
             findings.push(target_is_no_table(alloc)?)?;
             Ok(report_of(alloc, findings))

@@ -42,7 +42,11 @@ pub fn holds_over(alloc: Global, platform: &Platform, facts: &[Cfg]) -> Result<b
 
 /// Returns the facts of a sampled set over which the condition has the truth value `wanted`, if there is such a set.
 /// Fails if memory is refused.
-pub fn tried(alloc: Global, platform: &Platform, wanted: bool) -> Result<Vec<Cfg>, AllocError> {
+pub fn find_sample(
+    alloc: Global,
+    platform: &Platform,
+    wanted: bool,
+) -> Result<Vec<Cfg>, AllocError> {
     let Platform::Cfg(e) = platform else {
         return Ok(Vec::new(alloc));
     };

@@ -9,7 +9,7 @@ ghost use Rattle.partial_facts.specs.Partly.{names_of};
 ghost use Rattle.manifest_lints.specs.Truths.{CanBe};
 ghost use Rattle.manifest_lints.specs.Doubled.{are_two, has_doubled, pairs_at};
 
-use crate::sample_sets::{holds_over, is_of_key, tried};
+use crate::sample_sets::{find_sample, holds_over, is_of_key};
 use cargo_platform::{Cfg, Platform};
 use exact_answers::FactConstraints;
 use std::alloc::{AllocError, Global};
@@ -24,7 +24,7 @@ pub fn is_shown(
 ) -> Result<bool, AllocError>
     ensures { IfOk result (λ shown. IsTrue shown → CanBe truth known.now (condition_of platform.now)) }
 {
-    let facts = tried(alloc, platform, truth)?;
+    let facts = find_sample(alloc, platform, truth)?;
     if !are_possible(&facts, known) {
         return Ok(false);
     }

@@ -57,7 +57,7 @@ IsUnknownSpelled (spelled.Refused e) = ⊥
 
 pub record IsKnown (ds : List DeclaredEntry) (r : ReadKey) (k : AnalysedKey) : Type 0 where
   pub read : k.read.now ≡ r
-  pub tables : is_empty_list k.no_tables.items ≡ not (is_no_table (entry_read r).1)
+  pub tables : is_empty_list k.non_tables.items ≡ not (is_no_table (entry_read r).1)
   pub predicates : classified_by k.predicates.items ≡ classified_of_spelled ds r.spelled
   pub canonical : string_bytes k.canonical ≡ print_spelled r.spelled
   pub unknown_target : IsTrue k.is_unknown_target ↔ IsUnknownSpelled r.spelled
@@ -65,7 +65,7 @@ pub record IsKnown (ds : List DeclaredEntry) (r : ReadKey) (k : AnalysedKey) : T
 -- the lints that apply to a key by itself
 abbrev pub holds_alone : AnalysedKey → CodeSet
 holds_alone k code.Refused = is_refused k.read.now.spelled
-holds_alone k code.NoTable = not (is_empty_list k.no_tables.items)
+holds_alone k code.NoTable = not (is_empty_list k.non_tables.items)
 holds_alone k code.ReadOtherwise = is_by_cargo k.read.now.spelled || has_marked_literal
     (classified_by k.predicates.items)
 holds_alone k code.Unsupported = has_category category.Unsupported (classified_by k.predicates.items)

@@ -108,7 +108,7 @@ abbrev pub Shows : KeyLint → AnalysedKey → List ℕ → Type 0
 Shows code.Refused k message =
     (reason : List ℕ) × (message ≡ codes "invalid key: " ++ reason)
     × IsFaultText k.read.now.text.now k.read.now.spelled reason
-Shows code.NoTable k message = message ≡ joined_first (λ s. string_bytes s) (codes ", ") k.no_tables.items
+Shows code.NoTable k message = message ≡ joined_first (λ s. string_bytes s) (codes ", ") k.non_tables.items
 Shows code.ReadOtherwise k message = message ≡ read_otherwise k.read.now.spelled k.predicates.items
 Shows code.Unsupported k message =
     message

@@ -3,7 +3,8 @@
 ghost use Rattle.manifest_lints_findings.specs.Codes.{hiders, code_word, code_level, level_word};
 ghost use Rattle.std.specs.Prelude.{◌≡◌};
 
-/// The level of a diagnostic.
+/// How severe a finding is. The rules of a manifest or a command line may give its diagnostic another level, a
+/// `DiagnosticLevel`.
 #[derive(Clone, Copy, Debug, PartialEq, Eq, Drop)]
 pub enum Level {
     /// Cargo rejects the manifest, or leaves something out.

@@ -11,7 +11,7 @@ ghost use Rattle.manifest_lints_findings.specs.Known.{IsKnown, holds_alone, has_
 
 use crate::chosen::is_marked_literal;
 use crate::codes::KeyLint;
-use crate::no_tables::no_tables;
+use crate::no_tables::non_tables;
 use crate::readings::{KeyMeaning, ReadKey};
 use cargo_platform::{Platform, values_with_levels};
 use manifests::ExpectedCfgs;
@@ -28,7 +28,7 @@ pub struct AnalysedKey<'a> {
     /// The index of the key among those of the manifest.
     pub place: usize,
     /// The parts of the value that are not dependency tables, with a text for each.
-    pub no_tables: Vec<String>,
+    pub non_tables: Vec<String>,
     /// The names and pairs in the key, from left to right.
     pub predicates: Vec<KeyPredicate<'a>>,
     /// The maximum number of members, nested in one another, that others follow in their group.
@@ -50,15 +50,15 @@ impl<'a> AnalysedKey<'a> {
         ensures place { IfOk result (λ k. k.place ≡ place) }
         ensures known { IfOk result (λ k. IsKnown (declarations_of declared.now) read.now k) }
     {
-        let no_tables = no_tables_under(alloc, read)?;
+        let non_tables = non_tables_under(alloc, read)?;
         match &read.spelled {
             KeyMeaning::Condition(condition) => {
-                known_condition(alloc, read, place, no_tables, condition, declared)
+                known_condition(alloc, read, place, non_tables, condition, declared)
             }
             KeyMeaning::ByCargo(_) | KeyMeaning::Refused(_) => Ok(AnalysedKey {
                 read,
                 place,
-                no_tables,
+                non_tables,
                 predicates: Vec::new(alloc),
                 levels: 0,
                 canonical: String::new(alloc),
@@ -82,7 +82,7 @@ impl<'a> AnalysedKey<'a> {
     {
         match code {
             KeyLint::Refused => matches!(self.read.spelled, KeyMeaning::Refused(_)),
-            KeyLint::NoTable => !self.no_tables.is_empty(),
+            KeyLint::NoTable => !self.non_tables.is_empty(),
             KeyLint::ReadOtherwise => {
                 matches!(self.read.spelled, KeyMeaning::ByCargo(_))
                     || has_marked_literal(&self.predicates)
@@ -101,11 +101,11 @@ impl<'a> AnalysedKey<'a> {
 }
 
 /// Returns the parts of a key's value that are not dependency tables, with a text for each.
-fn no_tables_under(alloc: Global, read: &ReadKey<'_>) -> Result<Vec<String>, AllocError>
+fn non_tables_under(alloc: Global, read: &ReadKey<'_>) -> Result<Vec<String>, AllocError>
     ensures { IfOk result (λ found. is_empty_list found.items ≡ not (is_no_table (entry_read read.now).1)) }
 {
     match read.value {
-        Some(value) => no_tables(alloc, value),
+        Some(value) => non_tables(alloc, value),
         None => Ok(Vec::new(alloc)),
     }
 }
@@ -115,13 +115,13 @@ fn known_condition<'a>(
     alloc: Global,
     read: &'a ReadKey<'a>,
     place: usize,
-    no_tables: Vec<String>,
+    non_tables: Vec<String>,
     condition: &'a Platform,
     declared: &ExpectedCfgs<'_>,
 ) -> Result<AnalysedKey<'a>, AllocError>
     ensures place { IfOk result (λ k. k.place ≡ place) }
     ensures known { read.now.spelled ≡ KeyMeaning.Condition condition.now
-        → is_empty_list no_tables.items ≡ not (is_no_table (entry_read read.now).1)
+        → is_empty_list non_tables.items ≡ not (is_no_table (entry_read read.now).1)
         → IfOk result (λ k. IsKnown (declarations_of declared.now) read.now k) }
 {
     let met = values_with_levels(alloc, condition)?;
@@ -129,7 +129,7 @@ fn known_condition<'a>(
     Ok(AnalysedKey {
         read,
         place,
-        no_tables,
+        non_tables,
         predicates: key_predicates(alloc, &met.values, &spans, declared)?,
         levels: met.levels,
         canonical: canonical(alloc, condition)?,

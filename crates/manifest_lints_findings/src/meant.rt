@@ -207,14 +207,14 @@ fn target_in_order(alloc: Global, text: &str) -> Result<Option<String>, AllocErr
 }
 
 /// Returns whether a byte separates the parts of a name.
-fn is_mark(byte: u8) -> bool {
+fn is_separator(byte: u8) -> bool {
     matches!(byte, b'-' | b'_' | b'.')
 }
 
 /// Returns whether both are the same except for ASCII case and separators.
-pub fn is_same_but_marks(text: &str, word: &str) -> bool {
-    let mut others = word.bytes().filter(|byte| !is_mark(*byte));
-    for byte in text.bytes().filter(|byte| !is_mark(*byte)) {
+pub fn is_same_but_separators(text: &str, word: &str) -> bool {
+    let mut others = word.bytes().filter(|byte| !is_separator(*byte));
+    for byte in text.bytes().filter(|byte| !is_separator(*byte)) {
         match others.next() {
             Some(other) if other.eq_ignore_ascii_case(&byte) => {}
             _ => return false,
@@ -276,7 +276,7 @@ fn target_with_parts(text: &str) -> Option<&'static str> {
 /// or has the same parts.
 fn similar_target(text: &str) -> Option<&'static str> {
     for name in names() {
-        if is_same_but_marks(text, name) {
+        if is_same_but_separators(text, name) {
             return Some(*name);
         }
     }

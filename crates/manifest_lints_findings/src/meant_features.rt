@@ -1,6 +1,6 @@
 //! The features that people mean by values of `target_feature` that rustc has for no architecture.
 
-use crate::meant::{is_one_edit, is_same_but_marks};
+use crate::meant::{is_one_edit, is_same_but_separators};
 use predicate_classes::rustc_names::target_features;
 use std::alloc::{AllocError, Global};
 
@@ -25,7 +25,7 @@ fn meant_feature(text: &str) -> Option<&'static str> {
         return Some("sse4.2");
     }
     for feature in target_features() {
-        if is_same_but_marks(text, feature) {
+        if is_same_but_separators(text, feature) {
             return Some(*feature);
         }
     }

@@ -10,7 +10,7 @@ use crate::chosen::{Choice, chosen};
 use crate::codes::KeyLint;
 use crate::known_keys::AnalysedKey;
 use crate::readings::KeyMeaning;
-use crate::wording::{both, joined, listed, quoted};
+use crate::wording::{join_non_empty, joined, listed, quoted};
 use key_answers::printing::key_reason;
 use known_targets::RUSTC_VERSION;
 use predicate_classes::classes::Category;
@@ -65,7 +65,7 @@ fn no_target(alloc: Global) -> Result<String, AllocError>
 fn no_table_message(alloc: Global, key: &AnalysedKey<'_>) -> Result<String, AllocError>
     ensures { IfOk result (λ s. Shows KeyLint.NoTable key.now (string_bytes s)) }
 {
-    joined(alloc, &key.no_tables, key.no_tables.len(), ", ")
+    joined(alloc, &key.non_tables, key.non_tables.len(), ", ")
 }
 
 /// Returns the reason why a key is rejected.
@@ -163,7 +163,7 @@ fn unknown_fact_message(alloc: Global, key: &AnalysedKey<'_>) -> Result<String, 
     let features = chosen(alloc, &mistakes, Choice::Feature)?;
     let first = lacking_message(alloc, &facts)?;
     let second = features_message(alloc, &features)?;
-    both(alloc, first, second)
+    join_non_empty(alloc, first, second)
 }
 
 /// Returns the message for a condition that is true on no known target.
@@ -210,5 +210,5 @@ fn custom_message(alloc: Global, key: &AnalysedKey<'_>) -> Result<String, AllocE
     let unstable = chosen(alloc, &custom, Choice::Unstable)?;
     let first = lacking_message(alloc, &flagged)?;
     let second = unstable_message(alloc, &unstable)?;
-    both(alloc, first, second)
+    join_non_empty(alloc, first, second)
 }

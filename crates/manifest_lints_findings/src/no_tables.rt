@@ -77,7 +77,7 @@ fn no_table(alloc: Global, name: &str) -> Result<String, AllocError> {
 }
 
 /// Returns the names of the fields of a key that are not dependency tables. Fails if memory is refused.
-pub fn no_table_fields(alloc: Global, value: &Value) -> Result<Vec<String>, AllocError>
+pub fn non_table_fields(alloc: Global, value: &Value) -> Result<Vec<String>, AllocError>
     ensures { IfOk result (λ found. map (λ s. string_bytes s) found.items ≡ no_table_names (view value.now)) }
 {
     let mut found = Vec::new(alloc);
@@ -93,7 +93,7 @@ pub fn no_table_fields(alloc: Global, value: &Value) -> Result<Vec<String>, Allo
 }
 
 /// Returns the parts of a key's value that are not dependency tables, with a text for each. Fails if memory is refused.
-pub fn no_tables(alloc: Global, value: &Value) -> Result<Vec<String>, AllocError>
+pub fn non_tables(alloc: Global, value: &Value) -> Result<Vec<String>, AllocError>
     ensures { IfOk result (λ found. is_empty_list found.items ≡ not (is_no_table (view value.now))) }
 {
     let mut found = Vec::new(alloc);

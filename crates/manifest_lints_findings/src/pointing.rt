@@ -8,7 +8,7 @@ ghost use Rattle.manifest_lints_findings.specs.Spells.{data_at};
 use crate::chosen::{Choice, chosen};
 use crate::codes::KeyLint;
 use crate::known_keys::AnalysedKey;
-use crate::no_tables::no_table_fields;
+use crate::no_tables::non_table_fields;
 use crate::wording::MAX_SHOWN;
 use predicate_classes::classes::Category;
 use predicate_classes::key_predicates::KeyPredicate;
@@ -93,7 +93,7 @@ fn fields_at_fault(
         (λ fields. map (λ s. string_bytes s) fields.items ≡ fields_of code (data_at key.now.read.now.value)) }
 {
     match (code, key.read.value) {
-        (KeyLint::NoTable, Some(value)) => no_table_fields(alloc, value),
+        (KeyLint::NoTable, Some(value)) => non_table_fields(alloc, value),
         _ => Ok(Vec::new(alloc)),
     }
 }

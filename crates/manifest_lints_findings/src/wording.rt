@@ -99,7 +99,7 @@ pub fn listed(alloc: Global, facts: &[KeyPredicate<'_>]) -> Result<String, Alloc
 }
 
 /// Returns both texts with a semicolon between them, or the only one that is not empty. Fails if memory is refused.
-pub fn both(alloc: Global, first: String, second: String) -> Result<String, AllocError>
+pub fn join_non_empty(alloc: Global, first: String, second: String) -> Result<String, AllocError>
     ensures { IfOk result (λ s. string_bytes s ≡ both_texts (string_bytes first) (string_bytes second)) }
 {
     if first.is_empty() {

@@ -8,8 +8,8 @@ use Rattle.manifests.specs.Entries.{Entry, entry_of}
 use Rattle.manifests.specs.declared.tables.Dependency.{Dependency}
 use Rattle.manifests.specs.declared.tables.Kind.{Kind}
 use Rattle.manifests.specs.declared.tables.Kind.TheVariants.{Normal, Development, Build}
-use Rattle.manifests.specs.declared.tables.Targets.{Targets}
-use Rattle.manifests.specs.declared.tables.Targets.TheVariants as targets
+use Rattle.manifests.specs.declared.tables.TargetValue.{TargetValue}
+use Rattle.manifests.specs.declared.tables.TargetValue.TheVariants as targets
 
 -- ---- the keys
 
@@ -23,7 +23,7 @@ abbrev pub target_of : Members → Option (Option (List Entry))
 target_of ms = option_map (λ d. option_map entries_of (as_table d)) (get_member (codes "target") ms)
 
 -- the same, as the call returns it
-abbrev pub target_told : Targets → Option (Option (List Entry))
+abbrev pub target_told : TargetValue → Option (Option (List Entry))
 target_told targets.Absent = None
 target_told targets.NoTable = Some None
 target_told (targets.Keys keys) = Some (Some (map entry_of keys.items))

@@ -6,11 +6,11 @@ ghost use Rattle.manifests.specs.Tables.{target_of, target_told};
 ghost use Rattle.manifests.specs.Documents.{AreInSomeOrder};
 
 use crate::key_locations::SourceMap;
-use crate::{Targets, target_keys};
+use crate::{TargetValue, target_keys};
 use std::alloc::{AllocError, Global};
 use toml::Table;
 
-/// A parsed manifest.
+/// A parsed manifest without its path: its table, and the places at which its text spells names.
 #[derive(Drop)]
 pub struct Document {
     pub table: Table,
@@ -37,16 +37,16 @@ impl Document {
 
     /// Returns the value of `target`: its keys, in the order in which they first appear in the text. Keys for which
     /// that is not certain come last, in the order of their bytes. Fails if an allocation fails.
-    pub fn target_keys(&self, alloc: Global) -> Result<Targets<'_>, AllocError>
+    pub fn target_keys(&self, alloc: Global) -> Result<TargetValue<'_>, AllocError>
         ensures { IfOk result (λ found. AreInSomeOrder (target_of (table_view self.now.table)) (target_told found)) }
     {
         match target_keys(alloc, &self.table)? {
-            Targets::Keys(mut keys) => {
+            TargetValue::Keys(mut keys) => {
                 keys.sort_by_cached_key(|key| self.locations.ordinal_of(key.key))?;
-                Ok(Targets::Keys(keys))
+                Ok(TargetValue::Keys(keys))
             }
-            Targets::NoTable => Ok(Targets::NoTable),
-            Targets::Absent => Ok(Targets::Absent),
+            TargetValue::NoTable => Ok(TargetValue::NoTable),
+            TargetValue::Absent => Ok(TargetValue::Absent),
         }
     }
 }

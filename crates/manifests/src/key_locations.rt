@@ -5,7 +5,7 @@
 //! values, which skip strings, comments and numbers. It stops at anything unexpected, and the names that it has not
 //! reached have no place.
 
-use crate::parts::{Within, path_behind, path_of_key};
+use crate::parts::{DocumentPart, child_path, path_of_key};
 use std::alloc::{AllocError, AllocFailed, Global};
 use std::collections::BTreeMap;
 use std::mem;
@@ -54,8 +54,8 @@ pub struct SourceMap {
 #[derive(Drop)]
 enum OpenValue {
     /// An array, with the number of elements before the next one.
-    Array(Within, usize),
-    Inline(Within),
+    Array(DocumentPart, usize),
+    Inline(DocumentPart),
 }
 
 /// A pass through a text, with the places that were found so far.
@@ -66,7 +66,7 @@ struct Walk<'a> {
     locations: SourceMap,
     open: Vec<OpenValue>,
     /// The table of the last header.
-    within: Within,
+    within: DocumentPart,
     /// True if the document is no manifest, and each name and each element is recorded.
     records_all: bool,
 }
@@ -74,7 +74,7 @@ struct Walk<'a> {
 /// The value that a key has, and the place of the last name of the key.
 #[derive(Drop)]
 struct Named {
-    within: Within,
+    within: DocumentPart,
     last: Location,
 }
 
@@ -107,11 +107,11 @@ impl From<ParseError> for Stop {
 }
 
 /// Returns the whole document: one that is no manifest, if each name is recorded.
-fn top_of(alloc: Global, records_all: bool) -> Within {
+fn top_of(alloc: Global, records_all: bool) -> DocumentPart {
     if records_all {
-        Within::any(alloc)
+        DocumentPart::foreign(alloc)
     } else {
-        Within::top(alloc)
+        DocumentPart::top(alloc)
     }
 }
 
@@ -146,9 +146,9 @@ impl SourceMap {
         SourceMap::walked(alloc, text, false)
     }
 
-    /// Returns the places of all names in the text of a document that is no manifest, and of the elements of its
-    /// arrays, which `at_path` has: those of texts, and of tables after `[[..]]` by their headers. Fails if an
-    /// allocation fails.
+    /// Returns the places of all names in the text of a document that is no manifest, such as a policy, and of elements
+    /// of its arrays. `location_of_path` has them all: a text has its own place, and a table after `[[..]]` that of
+    /// its header. Fails if an allocation fails.
     pub fn of_all(alloc: Global, text: &str) -> Result<SourceMap, AllocError> {
         SourceMap::walked(alloc, text, true)
     }
@@ -192,7 +192,7 @@ impl SourceMap {
         self.keys.get(key).copied()
     }
 
-    /// Returns the place of a key of `target`, if it is known.
+    /// Returns the place of a key of `target`, if it is known. `location_in_key` also checks it against the text.
     pub fn location_of_key(&self, key: &str) -> Option<Location> {
         match self.appearance_of(key) {
             Some(appearance) => Some(appearance.at),
@@ -258,7 +258,7 @@ impl SourceMap {
         field: &str,
     ) -> Result<String, AllocError> {
         let path = path_of_key(alloc, self.ordinal_of(key))?;
-        path_behind(alloc, path.as_str(), field)
+        child_path(alloc, path.as_str(), field)
     }
 
     /// Returns the place of a field of a key of `target`, if it is known. Fails if an allocation fails.
@@ -301,9 +301,9 @@ impl SourceMap {
     fn note(
         &mut self,
         alloc: Global,
-        within: &Within,
+        within: &DocumentPart,
         name: &str,
-        inside: &mut Within,
+        inside: &mut DocumentPart,
         at: Location,
     ) -> Result<(), AllocError> {
         if within.is_target() {
@@ -364,7 +364,7 @@ impl<'a> Walk<'a> {
     }
 
     /// Reads one name of a key in a table, and the spaces after it.
-    fn name(&mut self, within: &Within) -> Result<Named, Stop> {
+    fn name(&mut self, within: &DocumentPart) -> Result<Named, Stop> {
         let start = self.cursor.position;
         let (name, rest) = name_at_front(self.alloc, self.cursor.rest)?;
         self.cursor.go_to(rest);
@@ -380,7 +380,7 @@ impl<'a> Walk<'a> {
     }
 
     /// Reads a key in a table: names with dots between them.
-    fn names(&mut self, within: &Within) -> Result<Named, Stop> {
+    fn names(&mut self, within: &DocumentPart) -> Result<Named, Stop> {
         let mut named = self.name(within)?;
         for _ in 0..self.cursor.rest.len() {
             if first(self.cursor.rest) != b'.' {
@@ -398,7 +398,7 @@ impl<'a> Walk<'a> {
         if first(self.cursor.rest) == b'[' {
             return self.header();
         }
-        let within = mem::replace(&mut self.within, Within::other(self.alloc));
+        let within = mem::replace(&mut self.within, DocumentPart::other(self.alloc));
         let named = self.names(&within)?;
         self.within = within;
         self.assigned(named)
@@ -427,9 +427,9 @@ impl<'a> Walk<'a> {
 
     /// Returns the table behind a header with two brackets, whose place is recorded in a document that is no manifest.
     /// Its index is the number of such headers before it.
-    fn table_of_array(&mut self, named: &Named) -> Result<Within, Stop> {
-        if !named.within.is_any() {
-            return Ok(Within::other(self.alloc));
+    fn table_of_array(&mut self, named: &Named) -> Result<DocumentPart, Stop> {
+        if !named.within.is_foreign() {
+            return Ok(DocumentPart::other(self.alloc));
         }
         let index = self.locations.count_again(named.within.path.as_str());
         let table = named.within.element(self.alloc, index)?;
@@ -451,7 +451,7 @@ impl<'a> Walk<'a> {
     }
 
     /// Reads a value, or the beginning of one.
-    fn value(&mut self, within: Within) -> Result<(), Stop> {
+    fn value(&mut self, within: DocumentPart) -> Result<(), Stop> {
         if first(self.cursor.rest) == b'[' {
             self.take(b'[')?;
             self.open.push(OpenValue::Array(within, 0))?;
@@ -466,7 +466,7 @@ impl<'a> Walk<'a> {
     }
 
     /// Reads a string, a number, a boolean or a date.
-    fn scalar(&mut self, within: &Within) -> Result<(), Stop> {
+    fn scalar(&mut self, within: &DocumentPart) -> Result<(), Stop> {
         let start = self.cursor.position;
         let is_text = starts_string(self.cursor.rest);
         if is_text {
@@ -476,7 +476,7 @@ impl<'a> Walk<'a> {
             let (_scalar, rest) = unquoted(self.alloc, self.cursor.rest)?;
             self.cursor.go_to(rest);
         }
-        if within.is_entry() && (is_text || !within.is_any()) {
+        if within.records_value() && (is_text || !within.is_foreign()) {
             let at = self.from(start);
             self.locations
                 .note_other(self.alloc, within.path.as_str(), at)?;
@@ -485,7 +485,7 @@ impl<'a> Walk<'a> {
     }
 
     /// Reads the next part of an array: its end, a comma, or an element. `count` is the number of commas before it.
-    fn part_of_array(&mut self, within: Within, count: usize) -> Result<(), Stop> {
+    fn part_of_array(&mut self, within: DocumentPart, count: usize) -> Result<(), Stop> {
         if first(self.cursor.rest) == b']' {
             return self.take(b']');
         }
@@ -501,7 +501,7 @@ impl<'a> Walk<'a> {
     }
 
     /// Reads the next part of an inline table: its end, a comma, or a member.
-    fn part_of_table(&mut self, within: Within) -> Result<(), Stop> {
+    fn part_of_table(&mut self, within: DocumentPart) -> Result<(), Stop> {
         if first(self.cursor.rest) == b'}' {
             return self.take(b'}');
         }
@@ -520,7 +520,7 @@ impl<'a> Walk<'a> {
 pub fn key_path(alloc: Global, names: &[&str]) -> Result<String, AllocError> {
     let mut path = String::new(alloc);
     for name in names {
-        path = path_behind(alloc, path.as_str(), name)?;
+        path = child_path(alloc, path.as_str(), name)?;
     }
     Ok(path)
 }

@@ -18,5 +18,5 @@ pub use selection::{
     Decision, DependencyDecision, SelectError, TargetFacts, decide_condition, select,
 };
 pub use tables::{
-    Dependency, Kind, TargetKey, Targets, dependencies, keys_of, table_of, target_keys,
+    Dependency, Kind, TargetKey, TargetValue, dependencies, keys_of, table_of, target_keys,
 };

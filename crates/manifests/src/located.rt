@@ -38,7 +38,7 @@ fn behind(text: &str, whole: Location, span: Span) -> Location
         line: whole.line,
         column: whole.column,
     };
-    let position = start.behind(before.text_in(text).unwrap_or(""));
+    let position = start.after(before.text_in(text).unwrap_or(""));
     Location {
         span,
         line: position.line,
@@ -63,7 +63,8 @@ fn at_part(
 }
 
 impl SourceMap {
-    /// Returns the place of a key of `target`, if it is known. Fails if an allocation fails.
+    /// Returns the place of a key of `target`, if it is known and the text there spells the key, which
+    /// `location_of_key` does not check. Fails if an allocation fails.
     pub fn location_in_key(&self, alloc: Global, key: &str) -> Result<Option<Location>, AllocError>
         // The place lies in the text, and the text there spells the key.
         ensures { IfOk result (λ found. IfSome found (λ at. IsAtName (string_bytes self.now.text) key.now at)) }

@@ -29,7 +29,7 @@ enum Part {
     /// An entry of such a list.
     Entry,
     /// A part of a document that is no manifest: each name and each element is recorded.
-    Any,
+    Foreign,
     /// A part in which no name is recorded.
     Other,
 }
@@ -73,9 +73,9 @@ fn at_top(name: &str) -> Part {
     }
 }
 
-/// A part of a manifest, with its path.
+/// A part of a manifest or of another document, with its path. What the part is decides which names in it are recorded.
 #[derive(Drop)]
-pub struct Within {
+pub struct DocumentPart {
     part: Part,
     /// The text of its path. It is empty if no name in the part is recorded.
     pub path: String,
@@ -85,7 +85,7 @@ impl Part {
     /// Returns the part of this part that has this name.
     fn member(self, name: &str) -> Part {
         match self {
-            Part::Any => Part::Any,
+            Part::Foreign => Part::Foreign,
             Part::Top => at_top(name),
             Part::Target => Part::Key,
             Part::Key => Part::Field,
@@ -102,62 +102,62 @@ impl Part {
     }
 }
 
-impl Within {
+impl DocumentPart {
     /// Returns the whole manifest.
-    pub fn top(alloc: Global) -> Within {
-        Within {
+    pub fn top(alloc: Global) -> DocumentPart {
+        DocumentPart {
             part: Part::Top,
             path: String::new(alloc),
         }
     }
 
     /// Returns a whole document that is no manifest.
-    pub fn any(alloc: Global) -> Within {
-        Within {
-            part: Part::Any,
+    pub fn foreign(alloc: Global) -> DocumentPart {
+        DocumentPart {
+            part: Part::Foreign,
             path: String::new(alloc),
         }
     }
 
     /// Returns a part in which no name is recorded.
-    pub fn other(alloc: Global) -> Within {
-        Within {
+    pub fn other(alloc: Global) -> DocumentPart {
+        DocumentPart {
             part: Part::Other,
             path: String::new(alloc),
         }
     }
 
     /// Returns the part of this name. The path of a key of `target` is still empty. Fails if an allocation fails.
-    pub fn member(&self, alloc: Global, name: &str) -> Result<Within, AllocError> {
+    pub fn member(&self, alloc: Global, name: &str) -> Result<DocumentPart, AllocError> {
         let part = self.part.member(name);
         match (self.part, part) {
-            (_, Part::Other) => Ok(Within::other(alloc)),
-            (Part::Entry, _) => Ok(Within {
+            (_, Part::Other) => Ok(DocumentPart::other(alloc)),
+            (Part::Entry, _) => Ok(DocumentPart {
                 part,
                 path: self.path.clone()?,
             }),
-            (Part::Target, _) => Ok(Within {
+            (Part::Target, _) => Ok(DocumentPart {
                 part,
                 path: String::new(alloc),
             }),
-            _ => Ok(Within {
+            _ => Ok(DocumentPart {
                 part,
-                path: path_behind(alloc, self.path.as_str(), name)?,
+                path: child_path(alloc, self.path.as_str(), name)?,
             }),
         }
     }
 
     /// Returns the element of an array at an index. Fails if an allocation fails.
-    pub fn element(&self, alloc: Global, index: usize) -> Result<Within, AllocError> {
+    pub fn element(&self, alloc: Global, index: usize) -> Result<DocumentPart, AllocError> {
         let part = match self.part {
             Part::List => Part::Entry,
-            Part::Any => Part::Any,
-            _ => return Ok(Within::other(alloc)),
+            Part::Foreign => Part::Foreign,
+            _ => return Ok(DocumentPart::other(alloc)),
         };
         let name = format!(in alloc; "{index}")?;
-        Ok(Within {
+        Ok(DocumentPart {
             part,
-            path: path_behind(alloc, self.path.as_str(), name.as_str())?,
+            path: child_path(alloc, self.path.as_str(), name.as_str())?,
         })
     }
 
@@ -178,13 +178,13 @@ impl Within {
 
     /// Returns whether the place of a value is recorded: of an entry of a list in the metadata, and of a text in a
     /// document that is no manifest.
-    pub fn is_entry(&self) -> bool {
-        self.part == Part::Entry || self.part == Part::Any
+    pub fn records_value(&self) -> bool {
+        self.part == Part::Entry || self.part == Part::Foreign
     }
 
     /// Returns whether the part is in a document that is no manifest.
-    pub fn is_any(&self) -> bool {
-        self.part == Part::Any
+    pub fn is_foreign(&self) -> bool {
+        self.part == Part::Foreign
     }
 
     /// Returns whether a name in the part is recorded whatever its value is. `member` is the part that has this name.
@@ -195,7 +195,7 @@ impl Within {
             Part::Dependencies => is_odd_package(name),
             Part::Package | Part::Workspace => name == "target",
             Part::Metadata => is_tool(name),
-            Part::Settings | Part::Any => true,
+            Part::Settings | Part::Foreign => true,
             _ => false,
         }
     }
@@ -208,7 +208,7 @@ pub fn path_of_key(alloc: Global, place: usize) -> Result<String, AllocError> {
 }
 
 /// Returns the text of a path and one name more. The length before the name makes the texts of two paths differ.
-pub fn path_behind(alloc: Global, path: &str, name: &str) -> Result<String, AllocError> {
+pub fn child_path(alloc: Global, path: &str, name: &str) -> Result<String, AllocError> {
     let length = name.len();
     format!(in alloc; "{path}{length}:{name}")
 }

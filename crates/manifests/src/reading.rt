@@ -11,7 +11,7 @@ use std::rt::Files;
 use toml::{Table, table_from_str};
 use toml_spans::{Position, Span};
 
-/// A manifest that was read and parsed.
+/// A manifest that was read from a file and parsed: its document, with the path of the file.
 #[derive(Drop)]
 pub struct Manifest {
     /// The path as it is displayed. For a folder it is the path of its `Cargo.toml`.
@@ -99,7 +99,7 @@ fn file_at<R: Files + AllocGlobal>(rt: &R, path: &str) -> Result<String, AllocEr
 
 /// Returns the place of a span in a text.
 pub(crate) fn location_of(text: &str, span: Span) -> Location {
-    let start = Position::START.behind(text.get(..span.start).unwrap_or(""));
+    let start = Position::START.after(text.get(..span.start).unwrap_or(""));
     Location {
         span,
         line: start.line,

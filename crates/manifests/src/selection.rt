@@ -13,7 +13,7 @@ ghost use Rattle.manifests.specs.Selecting.{question_of, question_in, IsHostDeci
 ghost use Rattle.manifests.specs.Selecting.{chosen_of, selected, AreChosen, AreRowsOfKey, AreRowsOfKeys, AreRows, Adds};
 ghost use Rattle.manifests.specs.Selecting.{IsErrorOn, IsErrorUnder};
 
-use crate::{Dependency, Kind, TargetKey, Targets, dependencies, target_keys};
+use crate::{Dependency, Kind, TargetKey, TargetValue, dependencies, target_keys};
 use cargo_platform::{Cfg, Facts, Listed, ParseError, Platform, ReadError};
 use known_targets::KnownTarget;
 use partial_facts::names::is_named;
@@ -200,9 +200,9 @@ pub fn select<'a>(
 {
     let mut rows = outside(alloc, manifest)?;
     match target_keys(alloc, manifest)? {
-        Targets::Absent => Ok(rows),
-        Targets::NoTable => Err(SelectError::TargetIsNoTable),
-        Targets::Keys(keys) => {
+        TargetValue::Absent => Ok(rows),
+        TargetValue::NoTable => Err(SelectError::TargetIsNoTable),
+        TargetValue::Keys(keys) => {
             let query = Query {
                 target,
                 known,

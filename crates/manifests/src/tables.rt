@@ -23,7 +23,7 @@ pub struct TargetKey<'a> {
 
 /// The value of `target` in a manifest.
 #[derive(Drop)]
-pub enum Targets<'a> {
+pub enum TargetValue<'a> {
     /// There is none.
     Absent,
     /// A value that is not a table.
@@ -88,14 +88,14 @@ fn member<'a>(table: &'a Table, key: &str) -> Option<&'a Value>
 }
 
 /// Returns the value of `target`. Fails if an allocation fails.
-pub fn target_keys<'a>(alloc: Global, manifest: &'a Table) -> Result<Targets<'a>, AllocError>
+pub fn target_keys<'a>(alloc: Global, manifest: &'a Table) -> Result<TargetValue<'a>, AllocError>
     ensures { IfOk result (λ found. target_told found ≡ target_of (table_view manifest.now)) }
 {
     match member(manifest, "target") {
-        None => Ok(Targets::Absent),
+        None => Ok(TargetValue::Absent),
         Some(value) => match value.as_table() {
-            None => Ok(Targets::NoTable),
-            Some(table) => Ok(Targets::Keys(keys_of(alloc, table)?)),
+            None => Ok(TargetValue::NoTable),
+            Some(table) => Ok(TargetValue::Keys(keys_of(alloc, table)?)),
         },
     }
 }

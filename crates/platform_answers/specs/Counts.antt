@@ -33,7 +33,7 @@ up_at_zero n count = if n == 0 then up count else count
 
 -- no read was requested
 abbrev pub no_reads : ReadCounts
-no_reads = record { reads = 0; room = 0; interrupted_reads = 0; failed_reads = 0; bytes = 0; ends = 0 }
+no_reads = record { reads = 0; room = 0; interrupted_reads = 0; failed_reads = 0; bytes = 0; empty_reads = 0 }
 
 -- after a read with this room, whatever its result
 abbrev pub after_asking : ℕ → ReadCounts → ReadCounts
@@ -41,7 +41,7 @@ after_asking room c = record c { reads = up c.reads; room = up_by room c.room }
 
 -- after a read that returned n bytes, which is 0 at the end
 abbrev pub after_read : ℕ → ℕ → ReadCounts → ReadCounts
-after_read room n c = record (after_asking room c) { bytes = up_by n c.bytes; ends = up_at_zero n c.ends }
+after_read room n c = record (after_asking room c) { bytes = up_by n c.bytes; empty_reads = up_at_zero n c.empty_reads }
 
 -- after a read that was interrupted
 abbrev pub after_interrupted_read : ℕ → ReadCounts → ReadCounts

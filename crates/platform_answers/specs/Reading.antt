@@ -20,19 +20,19 @@ pub record IsInput (old new : Option (List ℕ)) (counts : ReadCounts) (bs : Lis
   pub given : Consumes old new bs
   pub counted : counts.bytes ≡ length bs
   pub unfailed : counts.failed_reads ≡ 0
-  pub ended : length bs ≤ 1_048_576 → (counts.ends ≡ 1) × IsAtEnd new
-  pub unended : IsTooLong bs → counts.ends ≡ 0
+  pub ended : length bs ≤ 1_048_576 → (counts.empty_reads ≡ 1) × IsAtEnd new
+  pub unended : IsTooLong bs → counts.empty_reads ≡ 0
 
 -- the reads returned neither the end nor a byte too many, and one of them failed other than by an interruption, or none
 -- did and the maximum number was made
 abbrev pub HasReadFault : ReadCounts → Type 0
 HasReadFault c =
-    (c.ends ≡ 0) × (c.bytes ≤ 1_048_576)
+    (c.empty_reads ≡ 0) × (c.bytes ≤ 1_048_576)
     × ((c.failed_reads ≡ 1) ⊎ ((c.failed_reads ≡ 0) × (c.reads ≡ 1_048_578)))
 
 -- no read failed, and the end was met or some byte was read
 abbrev pub MayWantMemory : ReadCounts → Type 0
-MayWantMemory c = (c.failed_reads ≡ 0) × ((c.ends ≡ 1) ⊎ (0 < c.bytes))
+MayWantMemory c = (c.failed_reads ≡ 0) × ((c.empty_reads ≡ 1) ⊎ (0 < c.bytes))
 
 -- each read had room for 4,096 bytes
 abbrev pub HadWholeRoom : ReadCounts → Type 0

@@ -28,7 +28,7 @@ pub struct ReadCounts {
     /// The bytes that the reads returned.
     pub bytes: u64,
     /// The reads that returned no byte.
-    pub ends: u64,
+    pub empty_reads: u64,
 }
 
 /// The counts of writes and flushes. Each count stays at its greatest value once it has reached it.
@@ -87,7 +87,7 @@ impl<R> Input<R> {
                 interrupted_reads: 0,
                 failed_reads: 0,
                 bytes: 0,
-                ends: 0,
+                empty_reads: 0,
             },
         }
     }
@@ -128,10 +128,10 @@ impl<R> Input<R> {
     }
 
     /// Returns the number of reads that returned no byte.
-    pub fn ends(&self) -> u64
-        ensures { result ≡ (read_counts self.now).ends }
+    pub fn empty_reads(&self) -> u64
+        ensures { result ≡ (read_counts self.now).empty_reads }
     {
-        self.counts.ends
+        self.counts.empty_reads
     }
 }
 
@@ -161,7 +161,7 @@ impl<R: Read> Input<R> {
             Ok(n) => {
                 counts.bytes = counts.bytes.saturating_add(n as u64);
                 if n == 0 {
-                    counts.ends = counts.ends.saturating_add(1);
+                    counts.empty_reads = counts.empty_reads.saturating_add(1);
                 }
                 Ok(n)
             }

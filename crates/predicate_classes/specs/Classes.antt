@@ -20,7 +20,7 @@ use Rattle.predicate_classes.specs.declared.key_predicates.KeyPredicate.{KeyPred
 use Rattle.predicate_classes.specs.declared.key_predicates.TheConstants.{OPEN}
 use Rattle.predicate_classes.specs.declared.rustc_names.TheConstants.{KEYS_WITH_VALUES, FLAG_DEPENDENT_KEYS}
 use Rattle.predicate_classes.specs.declared.rustc_names.TheConstants.{NAMES_WITHOUT_VALUE}
-use Rattle.predicate_classes.specs.declared.rustc_names.TheConstants.{KEYS_WITHOUT_PREFIX, OF_PROFILES, OTHER_WORDS}
+use Rattle.predicate_classes.specs.declared.rustc_names.TheConstants.{KEYS_WITHOUT_PREFIX, PROFILE_WORDS, OTHER_WORDS}
 use Rattle.predicate_classes.specs.declared.rustc_names.TheConstants.{UNSTABLE_NAMES, UNSTABLE_KEYS, PANIC_VALUES}
 use Rattle.predicate_classes.specs.declared.target_features.TheConstants.{TARGET_FEATURES}
 use Rattle.predicate_classes.specs.declared.classes.Category.{Category}
@@ -93,7 +93,7 @@ is_near name = nat_le SHORTEST (length name) && (is_near_one name || is_like_key
 -- a key without `target_`, a setting of a profile, or another word for a fact of rustc's
 abbrev pub is_word_for_rustcs : List ℕ → Bool
 is_word_for_rustcs name = is_named name (map (λ w. w.now) KEYS_WITHOUT_PREFIX)
-    || (is_named name (map (λ w. w.now) OF_PROFILES) || is_named name (map (λ w. w.now) OTHER_WORDS))
+    || (is_named name (map (λ w. w.now) PROFILE_WORDS) || is_named name (map (λ w. w.now) OTHER_WORDS))
 
 -- the same whatever the case of ASCII letters
 abbrev pub is_taken_for_rustcs : List ℕ → Bool

@@ -16,8 +16,8 @@ ghost use Rattle.predicate_classes.specs.Classes.{is_word_for_rustcs, starts_lik
 ghost use Rattle.predicate_classes.specs.Classes.{IsUnknownTarget};
 
 use crate::rustc_names::{
-    FLAG_DEPENDENT_KEYS, KEYS_WITH_VALUES, KEYS_WITHOUT_PREFIX, NAMES_WITHOUT_VALUE, OF_PROFILES,
-    OTHER_WORDS, PANIC_VALUES, UNSTABLE_KEYS, UNSTABLE_NAMES, is_target_feature, pair,
+    FLAG_DEPENDENT_KEYS, KEYS_WITH_VALUES, KEYS_WITHOUT_PREFIX, NAMES_WITHOUT_VALUE, OTHER_WORDS,
+    PANIC_VALUES, PROFILE_WORDS, UNSTABLE_KEYS, UNSTABLE_NAMES, is_target_feature, pair,
 };
 use cargo_platform::{Cfg, Platform};
 use known_targets::{KnownTarget, is_known_value, targets_with_fact};
@@ -41,7 +41,7 @@ const NAMED_BY_VALUE: [&str; 9] = [
 /// The length of the shortest name that is similar to another one, in bytes.
 const SHORTEST: usize = 4;
 
-/// The class of a name or pair.
+/// What is known of a name or pair in a condition, in detail. A `Category` says it in fewer words.
 #[derive(Clone, Copy, Debug, PartialEq, Eq, Drop)]
 pub enum Class {
     /// rustc sets it for a known target, or may set it, depending on flags.
@@ -76,7 +76,7 @@ pub enum Class {
     Declared,
 }
 
-/// The category of a class.
+/// What is known of a name or pair, in few words. Each `Class` belongs to one category.
 #[derive(Clone, Copy, Debug, PartialEq, Eq, Drop)]
 pub enum Category {
     /// rustc sets it for a known target, or may set it, depending on flags.
@@ -245,7 +245,7 @@ fn taken_for_rustcs(name: &str) -> Option<Class>
     if is_among(name, &KEYS_WITHOUT_PREFIX) {
         return Some(Class::Shortened);
     }
-    if is_among(name, &OF_PROFILES) {
+    if is_among(name, &PROFILE_WORDS) {
         return Some(Class::OfProfile);
     }
     if is_among(name, &OTHER_WORDS) {

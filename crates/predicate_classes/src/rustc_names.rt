@@ -77,7 +77,7 @@ pub const KEYS_WITHOUT_PREFIX: [&str; 10] = [
 ];
 
 /// The names by which people refer to settings of a profile. Cargo selects dependencies without a profile.
-pub const OF_PROFILES: [&str; 3] = ["debug", "opt_level", "release"];
+pub const PROFILE_WORDS: [&str; 3] = ["debug", "opt_level", "release"];
 
 /// Other words for facts of rustc's.
 pub const OTHER_WORDS: [&str; 15] = [

@@ -1,7 +1,7 @@
 //! The search for conditions that are true on exactly some targets: of all known ones, or of those that are selected.
 
 use crate::selected::{
-    Fact, Selected, Selection, covering as covering_of, simple_condition, tried_facts,
+    Fact, Selection, TargetsToTellApart, candidate_facts, covering as covering_of, simple_condition,
 };
 use cargo_platform::{Cfg, Platform};
 use known_targets::conditions::{SingleFactConditions, covering};
@@ -13,7 +13,7 @@ use std::alloc::{AllocError, Global};
 #[derive(Drop)]
 pub enum ConditionSearch<'a> {
     Known(SingleFactConditions, Vec<KnownFact>),
-    Selected(Selected<'a>, Vec<Fact>, Vec<Fact>),
+    Selected(TargetsToTellApart<'a>, Vec<Fact>, Vec<Fact>),
 }
 
 /// Pairs each fact with the known targets that have it.
@@ -29,7 +29,7 @@ fn known_facts(alloc: Global, values: Vec<Cfg>) -> Result<Vec<KnownFact>, AllocE
 /// Pairs each fact with the selected targets that have it.
 fn selected_facts(
     alloc: Global,
-    selected: &Selected<'_>,
+    selected: &TargetsToTellApart<'_>,
     values: Vec<Cfg>,
 ) -> Result<Vec<Fact>, AllocError> {
     let mut facts = Vec::new(alloc);
@@ -54,8 +54,8 @@ impl<'a> ConditionSearch<'a> {
                 known_facts(alloc, values)?,
             ));
         }
-        let selected = Selected::of(alloc, selection, host)?;
-        let tried = tried_facts(alloc, &selected)?;
+        let selected = TargetsToTellApart::of(alloc, selection, host)?;
+        let tried = candidate_facts(alloc, &selected)?;
         let facts = selected_facts(alloc, &selected, values)?;
         Ok(ConditionSearch::Selected(selected, tried, facts))
     }
@@ -80,7 +80,7 @@ impl<'a> ConditionSearch<'a> {
         if let Some(found) = self.of_asked_facts(alloc, set)? {
             return Ok(Some(found));
         }
-        self.of_tried_facts(alloc, set)
+        self.of_candidate_facts(alloc, set)
     }
 
     /// Returns a condition made of the facts that occur in the conditions of the graph.
@@ -98,7 +98,7 @@ impl<'a> ConditionSearch<'a> {
     }
 
     /// Returns a condition made of the candidate facts.
-    fn of_tried_facts(
+    fn of_candidate_facts(
         &self,
         alloc: Global,
         set: TargetSet,

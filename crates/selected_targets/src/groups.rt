@@ -203,7 +203,7 @@ fn parted(alloc: Global, numbers: &Numbers, at: &[bool]) -> Result<Numbers, Allo
     let mut count: usize = 0;
     for i in 0..numbers.of.len() {
         let mut place = numbers.of[i].saturating_mul(2);
-        if is_at(at, i) {
+        if flag_at(at, i) {
             place = place.saturating_add(1);
         }
         let Some(part) = parts.get_mut(place) else {
@@ -220,7 +220,7 @@ fn parted(alloc: Global, numbers: &Numbers, at: &[bool]) -> Result<Numbers, Allo
 }
 
 /// Returns the flag at an index, or `false` if there is none.
-pub fn is_at(at: &[bool], place: usize) -> bool {
+pub fn flag_at(at: &[bool], place: usize) -> bool {
     at.get(place).copied().unwrap_or(false)
 }
 
@@ -265,7 +265,7 @@ fn places_of(alloc: Global, file: &str, numbers: &Numbers) -> Result<Vec<KnownTa
 fn set_of(places: &[KnownTarget], at: &[bool]) -> TargetSet {
     let mut set = TargetSet::none();
     for i in 0..places.len() {
-        if is_at(at, i) {
+        if flag_at(at, i) {
             set = set.union(TargetSet::only(places[i]));
         }
     }
@@ -322,8 +322,8 @@ impl<'a> Groups<'a> {
 
     /// Returns the known target that represents the target of the file at an index, if that is selected, or if it is
     /// the host and `with_host` is true.
-    pub fn place_of(&self, index: usize, with_host: bool) -> Option<KnownTarget> {
-        if is_at(&self.selection.is_selected, index)
+    pub fn representative_of(&self, index: usize, with_host: bool) -> Option<KnownTarget> {
+        if flag_at(&self.selection.is_selected, index)
             || (with_host && self.selection.host == Some(index))
         {
             self.places.get(index).copied()

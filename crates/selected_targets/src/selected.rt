@@ -2,7 +2,7 @@
 //! alone, as `known_targets::conditions` builds conditions from the facts of all known targets, so that no part of them
 //! tells apart what was not selected.
 
-use crate::groups::{Groups, is_at};
+use crate::groups::{Groups, flag_at};
 use cargo_platform::{Cfg, CfgExpr, Platform};
 use known_targets::conditions::SingleFactConditions;
 use known_targets::{KnownTarget, TargetSet, targets_with_fact};
@@ -47,7 +47,7 @@ pub struct Selection<'a> {
 /// The targets that conditions have to tell apart: the selected ones, and the host if conditions are evaluated on it
 /// too.
 #[derive(Drop)]
-pub struct Selected<'a> {
+pub struct TargetsToTellApart<'a> {
     targets: Vec<Target<'a>>,
     /// True if the targets were selected by name.
     are_named: bool,
@@ -62,7 +62,7 @@ fn targets_of_file<'a>(
     let rows = groups.rows();
     let mut targets = Vec::new(alloc);
     for i in 0..rows.len() {
-        if let Some(place) = groups.place_of(i, with_host) {
+        if let Some(place) = groups.representative_of(i, with_host) {
             targets.push(Target {
                 name: rows[i].name(),
                 place,
@@ -86,13 +86,13 @@ fn known_targets<'a>(alloc: Global, set: TargetSet) -> Result<Vec<Target<'a>>, A
     Ok(targets)
 }
 
-impl<'a> Selected<'a> {
+impl<'a> TargetsToTellApart<'a> {
     /// Returns the selected targets, and the host if there is one.
     pub fn of(
         alloc: Global,
         selection: Selection<'a>,
         host: Option<KnownTarget>,
-    ) -> Result<Selected<'a>, AllocError> {
+    ) -> Result<TargetsToTellApart<'a>, AllocError> {
         let hosts = match host {
             Some(host) => TargetSet::only(host),
             None => TargetSet::none(),
@@ -101,7 +101,7 @@ impl<'a> Selected<'a> {
             Some(groups) => targets_of_file(alloc, groups, host.is_some())?,
             None => known_targets(alloc, selection.targets.union(hosts))?,
         };
-        Ok(Selected {
+        Ok(TargetsToTellApart {
             targets,
             are_named: selection.are_named,
         })
@@ -120,7 +120,7 @@ impl<'a> Selected<'a> {
     fn only_name(&self, at: &[bool]) -> Option<&'a str> {
         let mut only = None;
         for i in 0..self.targets.len() {
-            if !is_at(at, i) {
+            if !flag_at(at, i) {
                 continue;
             }
             if only.is_some() {
@@ -141,7 +141,11 @@ pub struct Fact {
 
 impl Fact {
     /// Returns a fact with the targets that have it.
-    pub fn of(alloc: Global, selected: &Selected<'_>, fact: Cfg) -> Result<Fact, AllocError> {
+    pub fn of(
+        alloc: Global,
+        selected: &TargetsToTellApart<'_>,
+        fact: Cfg,
+    ) -> Result<Fact, AllocError> {
         let copy = fact.clone(alloc)?;
         let condition = Platform::Cfg(CfgExpr::Value(copy));
         let known = targets_with_fact(&fact);
@@ -179,7 +183,10 @@ fn rank_of(fact: &Cfg) -> Option<usize> {
 type Had<'a> = ((usize, &'a Cfg), usize);
 
 /// Returns the candidate facts of each target of a file, sorted in the order in which they are tried.
-fn had_facts<'a>(alloc: Global, selected: &Selected<'a>) -> Result<Vec<Had<'a>>, AllocError> {
+fn had_facts<'a>(
+    alloc: Global,
+    selected: &TargetsToTellApart<'a>,
+) -> Result<Vec<Had<'a>>, AllocError> {
     let mut had = Vec::new(alloc);
     for i in 0..selected.targets.len() {
         let Some(row) = selected.targets[i].row else {
@@ -204,7 +211,10 @@ fn is_last(facts: &[Fact], fact: &Cfg) -> bool {
 }
 
 /// Returns the candidate facts of the targets of a file, in the order in which they are tried.
-fn facts_of_file(alloc: Global, selected: &Selected<'_>) -> Result<Vec<Fact>, AllocError> {
+fn facts_of_file(
+    alloc: Global,
+    selected: &TargetsToTellApart<'_>,
+) -> Result<Vec<Fact>, AllocError> {
     let count = selected.targets.len();
     let mut facts: Vec<Fact> = Vec::new(alloc);
     for ((_, fact), place) in &had_facts(alloc, selected)? {
@@ -222,7 +232,7 @@ fn facts_of_file(alloc: Global, selected: &Selected<'_>) -> Result<Vec<Fact>, Al
 }
 
 /// Returns the candidate facts of known targets, in the order in which they are tried.
-fn known_facts(alloc: Global, selected: &Selected<'_>) -> Result<Vec<Fact>, AllocError> {
+fn known_facts(alloc: Global, selected: &TargetsToTellApart<'_>) -> Result<Vec<Fact>, AllocError> {
     let mut facts = Vec::new(alloc);
     for known in SingleFactConditions::new(alloc)?.facts() {
         let fact = known.fact.clone(alloc)?;
@@ -233,7 +243,10 @@ fn known_facts(alloc: Global, selected: &Selected<'_>) -> Result<Vec<Fact>, Allo
 }
 
 /// Returns the candidate facts, in the order in which they are tried.
-pub fn tried_facts(alloc: Global, selected: &Selected<'_>) -> Result<Vec<Fact>, AllocError> {
+pub fn candidate_facts(
+    alloc: Global,
+    selected: &TargetsToTellApart<'_>,
+) -> Result<Vec<Fact>, AllocError> {
     match selected.targets.first() {
         Some(first) if first.row.is_some() => facts_of_file(alloc, selected),
         _ => known_facts(alloc, selected),
@@ -252,7 +265,7 @@ fn mark(at: &mut Vec<bool>, place: usize) {
 /// for none.
 pub fn simple_condition(
     alloc: Global,
-    selected: &Selected<'_>,
+    selected: &TargetsToTellApart<'_>,
     facts: &[Fact],
     set: TargetSet,
 ) -> Result<Option<Platform>, AllocError> {
@@ -283,7 +296,7 @@ fn first_at<'a>(facts: &'a [Fact], at: &[bool], has: bool) -> Option<&'a Cfg> {
     for known in facts {
         let mut is_same = true;
         for i in 0..at.len() {
-            if is_at(&known.at, i) != (at[i] == has) {
+            if flag_at(&known.at, i) != (at[i] == has) {
                 is_same = false;
                 break;
             }
@@ -308,7 +321,7 @@ impl Literal {
     /// Returns whether the literal is true on a target.
     fn is_at(self, facts: &[Fact], target: usize) -> bool {
         match facts.get(self.place) {
-            Some(known) => is_at(&known.at, target) != self.is_negated,
+            Some(known) => flag_at(&known.at, target) != self.is_negated,
             None => false,
         }
     }
@@ -341,7 +354,7 @@ fn all_at(facts: &[Fact], literals: &[Literal], target: usize) -> bool {
 /// parts, each an `all(..)` of facts and negated facts.
 pub fn covering(
     alloc: Global,
-    selected: &Selected<'_>,
+    selected: &TargetsToTellApart<'_>,
     facts: &[Fact],
     set: TargetSet,
 ) -> Result<Option<Platform>, AllocError> {
@@ -444,7 +457,7 @@ fn best_literal(
     let mut others = Vec::new(alloc);
     for i in 0..at.len() {
         if all_at(facts, literals, i) {
-            if is_at(left, i) {
+            if flag_at(left, i) {
                 kept.push(i)?;
             } else if !at[i] {
                 others.push(i)?;

@@ -54,7 +54,7 @@ pub struct ParseError {
     pub span: Range<usize>,
 }
 
-/// Why parsing failed.
+/// The reason why parsing failed.
 #[derive(Debug, Drop)]
 pub enum ReadError {
     /// The text has a fault.

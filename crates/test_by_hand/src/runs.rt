@@ -289,7 +289,7 @@ fn one_byte_a_read(rt: HostRuntime) {
             LINUX_MEETS,
         );
         assert_count(&rt, reader.counts.bytes, LINUX_READS - 1);
-        assert_count(&rt, reader.counts.ends, 1);
+        assert_count(&rt, reader.counts.empty_reads, 1);
     }
 }
 

@@ -39,7 +39,7 @@ pub fn reads_of<R>(input: &Input<R>) -> ReadCounts {
         interrupted_reads: input.interrupted_reads(),
         failed_reads: input.failed_reads(),
         bytes: input.bytes(),
-        ends: input.ends(),
+        empty_reads: input.empty_reads(),
     }
 }
 
@@ -125,7 +125,7 @@ impl<'a> Read for ScriptedReader<'a> {
         let given = self.give(buf);
         self.counts.bytes = self.counts.bytes.saturating_add(given as u64);
         if given == 0 {
-            self.counts.ends = self.counts.ends.saturating_add(1);
+            self.counts.empty_reads = self.counts.empty_reads.saturating_add(1);
         }
         Ok(given)
     }

@@ -24,7 +24,7 @@ impl Position {
     };
 
     /// Returns the position after a byte.
-    fn after(self, byte: u8) -> Position {
+    fn after_byte(self, byte: u8) -> Position {
         let place = self.byte.saturating_add(1);
         match byte {
             b'\n' => Position {
@@ -46,10 +46,10 @@ impl Position {
     }
 
     /// Returns the position after a text that begins here.
-    pub fn behind(self, text: &str) -> Position {
+    pub fn after(self, text: &str) -> Position {
         let mut position = self;
         for byte in text.bytes() {
-            position = position.after(byte);
+            position = position.after_byte(byte);
         }
         position
     }
@@ -76,7 +76,7 @@ impl<'a> Cursor<'a> {
     pub fn go_to(&mut self, rest: &'a str) {
         let read = self.rest.len().saturating_sub(rest.len());
         let text = self.rest.get(0..read).unwrap_or("");
-        self.position = self.position.behind(text);
+        self.position = self.position.after(text);
         self.rest = rest;
     }
 

@@ -185,9 +185,9 @@ fn spells_between(alloc: Global, quote: &str, text: &str, name: &str) -> Result<
     spells(alloc, key.as_str(), name)
 }
 
-/// Returns the span in `text` that spells a part of a name, so that an escape is a whole part of it. `span` is where
-/// the text spells `name`, and `part` the bytes of the part in the name. Returns `None` if there is no such part. Fails
-/// if an allocation fails.
+/// Returns the span in `text` that spells a part of a name. It never begins or ends within an escape. `span` is where
+/// the text spells `name`, and `part` has the bytes of the part in the name. Returns `None` if no span spells exactly
+/// the part. Fails if an allocation fails.
 pub fn part_of_name(
     alloc: Global,
     text: &str,

@@ -290,7 +290,7 @@ fn add_unneeded(
     Ok(())
 }
 
-/// Leaves the manifests whose packages are chosen, without those that are left out. What no manifest matches is
+/// Keeps the manifests whose packages are chosen, and removes the others from `found`. What no manifest matches is
 /// reported.
 ///
 /// Fails only if an allocation fails.

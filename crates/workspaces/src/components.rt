@@ -22,7 +22,7 @@ pub struct Characters {
 
 impl Characters {
     /// Returns whether the character is one of these.
-    pub fn have(&self, c: char) -> bool
+    pub fn contains(&self, c: char) -> bool
         ensures { IsTrue result ↔ IsInWhere self.now.are_excluded self.now.ranges.items c }
     {
         let is_within = is_within(&self.ranges, c);
@@ -67,7 +67,7 @@ impl Piece<char> for Part {
     fn matches(&self, _alloc: Global, item: &char) -> Result<bool, AllocError> {
         match self {
             Part::Any => Ok(false),
-            Part::One(characters) => Ok(characters.have(*item)),
+            Part::One(characters) => Ok(characters.contains(*item)),
         }
     }
 }

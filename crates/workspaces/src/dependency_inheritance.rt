@@ -60,9 +60,8 @@ fn is_texts(value: &Value) -> bool {
     }
 }
 
-/// Returns the first field of a table that is a dependency which has another type than Cargo expects, with the expected
-/// type. `texts` are the fields that are strings, and `flags` those that are booleans; `features` is an array of
-/// strings.
+/// Returns the first field of a dependency's table that lacks the type Cargo expects, with that type. `texts` are the
+/// fields that are strings, and `flags` those that are booleans; `features` is an array of strings.
 pub fn first_mistyped_field(
     table: &Table,
     texts: &[&'static str],
@@ -256,7 +255,8 @@ fn put_below(
     Ok(())
 }
 
-/// Returns whether the package of a manifest declares the edition 2024, or inherits it and has it in its place.
+/// Returns whether the package of a manifest has the edition 2024. An edition that it inherits counts if it has been
+/// put in its place.
 pub fn is_of_2024(manifest: &Table) -> bool {
     match table_in(manifest, "package") {
         Some(package) => text_in(package, "edition") == Some("2024"),

@@ -11,7 +11,8 @@ use toml::Table;
 /// The name of the table that the manifest of a root has, and of the field by which a member names its root.
 const WORKSPACE: &str = "workspace";
 
-/// A manifest that has been read and parsed.
+/// A manifest that was read and parsed: its text and its table. Unlike `manifests::document::Document`, it has no
+/// places of names, since the members of a workspace are found without them.
 #[derive(Drop)]
 pub struct Document {
     /// The text of the file.
@@ -22,7 +23,7 @@ pub struct Document {
 
 impl Document {
     /// Returns the table, if this word occurs in the text.
-    pub fn table_with(&self, word: &str) -> Option<&Table> {
+    pub fn table_if_mentioned(&self, word: &str) -> Option<&Table> {
         if self.text.contains(word) {
             Some(&self.table)
         } else {
@@ -32,7 +33,7 @@ impl Document {
 
     /// Returns the table `workspace`, if the manifest is that of a root.
     pub fn workspace(&self) -> Option<&Table> {
-        table_in(self.table_with(WORKSPACE)?, WORKSPACE)
+        table_in(self.table_if_mentioned(WORKSPACE)?, WORKSPACE)
     }
 
     /// Copies the document.
@@ -44,7 +45,7 @@ impl Document {
     }
 }
 
-/// Where the root of the workspace of a manifest is, by the manifest itself.
+/// What a manifest says about where the root of its workspace is.
 #[derive(Drop)]
 pub enum RootPlace {
     /// The manifest is that of a root.
@@ -56,9 +57,9 @@ pub enum RootPlace {
 }
 
 impl RootPlace {
-    /// Returns where the root is by a document.
+    /// Returns what a document says.
     fn of(alloc: Global, document: &Document) -> Result<RootPlace, AllocError> {
-        let Some(manifest) = document.table_with(WORKSPACE) else {
+        let Some(manifest) = document.table_if_mentioned(WORKSPACE) else {
             return Ok(RootPlace::Unsaid);
         };
         if manifest.get(WORKSPACE).is_some() {

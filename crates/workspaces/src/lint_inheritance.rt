@@ -63,7 +63,7 @@ impl InheritableFields {
         };
         Ok(InheritableFields {
             lints: field_of(workspace, LINTS)?,
-            own_lints: field_of(root.table_with(LINTS), LINTS)?,
+            own_lints: field_of(root.table_if_mentioned(LINTS), LINTS)?,
             rust_version,
             is_workspace: workspace.is_some(),
         })

@@ -99,8 +99,8 @@ fn joined_above(alloc: Global, count: usize, components: &[&str]) -> Result<Stri
     Ok(path)
 }
 
-/// Returns a path from a folder, whose absolute path this is, without the folders that it leaves by `..` and enters
-/// again at once.
+/// Returns a path without the folders that it leaves by `..` and enters again at once. It starts from the folder with
+/// the absolute path `folder`.
 ///
 /// Fails only if an allocation fails.
 pub fn simplified_from(alloc: Global, folder: &str, path: &str) -> Result<String, AllocError> {

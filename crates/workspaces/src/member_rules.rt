@@ -27,7 +27,7 @@ fn holds_without(first: bool, second: bool) -> bool
 
 impl MemberRules {
     /// Returns whether the folder is excluded. Fails only if an allocation fails.
-    pub fn exclude(&self, alloc: Global, path: &[Vec<char>]) -> Result<bool, AllocError>
+    pub fn excludes(&self, alloc: Global, path: &[Vec<char>]) -> Result<bool, AllocError>
         ensures { IfOk result (λ b. IsTrue b ↔ IsExcluded self.now path.now) }
     {
         let is_below = some_matches(alloc, &self.excluded, path)?;
@@ -39,11 +39,11 @@ impl MemberRules {
     }
 
     /// Returns whether the folder is a member by the globs. Fails only if an allocation fails.
-    pub fn have(&self, alloc: Global, path: &[Vec<char>]) -> Result<bool, AllocError>
+    pub fn contains(&self, alloc: Global, path: &[Vec<char>]) -> Result<bool, AllocError>
         ensures { IfOk result (λ b. IsTrue b ↔ IsMember self.now path.now) }
     {
         let is_taken = some_matches(alloc, &self.members, path)?;
-        let is_excluded = self.exclude(alloc, path)?;
+        let is_excluded = self.excludes(alloc, path)?;
         Ok(holds_without(is_taken, is_excluded))
     }
 }

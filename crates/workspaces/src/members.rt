@@ -200,9 +200,9 @@ impl Members {
     ) -> Result<bool, AllocError> {
         let names = folder_names(alloc, folder)?;
         if !pattern.matches(alloc, &names)? {
-            return self.rules.have(alloc, &names);
+            return self.rules.contains(alloc, &names);
         }
-        Ok(!self.rules.exclude(alloc, &names)?)
+        Ok(!self.rules.excludes(alloc, &names)?)
     }
 
     /// Adds the folders that a glob matches.
@@ -236,7 +236,7 @@ impl Members {
             return Ok(());
         }
         let names = folder_names(alloc, path)?;
-        if !self.rules.exclude(alloc, &names)? {
+        if !self.rules.excludes(alloc, &names)? {
             self.add(alloc, path)?;
         }
         Ok(())

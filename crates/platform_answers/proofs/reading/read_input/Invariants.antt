@@ -9,7 +9,7 @@ invariant-loop-turn g l = record {
   reads : (read_counts l.input).reads ≡ l._turn;
   room : (read_counts l.input).room ≡ 4096 * l._turn;
   failed : (read_counts l.input).failed_reads ≡ 0;
-  ends : (read_counts l.input).ends ≡ 0;
+  empty_reads : (read_counts l.input).empty_reads ≡ 0;
   bytes : (read_counts l.input).bytes ≡ length l.bytes.items;
   short : length l.bytes.items ≤ 1_048_576;
   brought : Consumes (g.R.Read.remaining (reader_of l.initial.input))

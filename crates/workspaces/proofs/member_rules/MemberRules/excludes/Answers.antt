@@ -3,7 +3,7 @@ use Rattle.std.specs.Prelude.{◌↔◌, IsTrue}
 use Rattle.workspaces.specs.Members.{IsMatchedBySome}
 use Rattle.workspaces.specs.declared.patterns.Pattern.{Pattern}
 use Rattle.workspaces.proofs.Without.{without, neither}
-use Rattle.workspaces.proofs.member_rules.MemberRules.exclude.Goals as goal
+use Rattle.workspaces.proofs.member_rules.MemberRules.excludes.Goals as goal
 
 pub returns-then-not-is_below : goal.returns-then-not-is_below
 returns-then-not-is_below c =

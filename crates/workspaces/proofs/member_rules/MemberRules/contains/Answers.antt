@@ -3,7 +3,7 @@ use Rattle.std.specs.Prelude.{◌↔◌, IsTrue}
 use Rattle.workspaces.specs.Members.{IsMatchedBySome}
 use Rattle.workspaces.specs.declared.patterns.Pattern.{Pattern}
 use Rattle.workspaces.proofs.Without.{without}
-use Rattle.workspaces.proofs.member_rules.MemberRules.have.Goals as goal
+use Rattle.workspaces.proofs.member_rules.MemberRules.contains.Goals as goal
 
 pub returns : goal.returns
 returns c =

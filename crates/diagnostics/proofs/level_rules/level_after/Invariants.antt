@@ -2,7 +2,7 @@ use Rattle.std.proofs.Common.{option_map, drop}
 use Rattle.manifest_lints_findings.specs.Codes.{lint_word}
 use Rattle.diagnostics.specs.declared.level_rules.DiagnosticLevel.{DiagnosticLevel}
 use Rattle.diagnostics.specs.LintLevels.{Makes}
-use Rattle.diagnostics.proofs.level_rules.level_by.Given as goal
+use Rattle.diagnostics.proofs.level_rules.level_after.Given as goal
 
 -- what the rules that are left make of the level so far, all make of the first one
 abbrev pub invariant-rules : goal.invariant-rules

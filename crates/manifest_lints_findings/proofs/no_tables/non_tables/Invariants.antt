@@ -1,7 +1,7 @@
 use Rattle.std.proofs.Common.{◌≡◌, ◌||◌, not}
 use Rattle.toml.specs.View.{view, members_view}
 use Rattle.manifest_lints_findings.specs.NoTables.{has_no_table, is_no_table, is_empty_list}
-use Rattle.manifest_lints_findings.proofs.no_tables.no_tables.Given as goal
+use Rattle.manifest_lints_findings.proofs.no_tables.non_tables.Given as goal
 
 -- something was found, or is still to come
 abbrev pub invariant-members : goal.invariant-members
