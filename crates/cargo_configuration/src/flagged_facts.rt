@@ -24,7 +24,7 @@ pub struct RustflagsTarget<'a> {
 pub struct RustflagsFacts {
     /// The facts, as the flags spell them, each once.
     pub facts: Vec<String>,
-    /// A note on each fact, which names the place of its flag.
+    /// A note on each fact, and on each codegen option whose facts are not known. It names the place of the flag.
     pub notes: String,
 }
 
@@ -82,6 +82,53 @@ impl RustflagsFacts {
             }
         }
         Ok(())
+    }
+
+    /// Adds a note on each codegen option that changes facts: what facts it sets is not known here.
+    fn note_options(&mut self, alloc: Global, flags: &Flags) -> Result<(), AllocError> {
+        let place = printable_excerpt(alloc, flags.place.as_str())?;
+        let mut before = "";
+        for flag in &flags.flags {
+            let flag = flag.as_str();
+            if let Some(option) = fact_option(before, flag) {
+                let option = printable_excerpt(alloc, option)?;
+                let note = format!(in alloc;
+                    "note: {place} sets `-C {option}`, which is ignored; --facts can state its facts\n"
+                )?;
+                self.notes.push_str(note.as_str())?;
+            }
+            before = flag;
+        }
+        Ok(())
+    }
+}
+
+/// The codegen options by which rustc sets other facts.
+const FACT_OPTIONS: [&str; 4] = ["debug-assertions", "panic", "target-cpu", "target-feature"];
+
+/// Returns the codegen option in a flag if it changes facts. It is in the form `-C OPTION`, `-COPTION`,
+/// `--codegen OPTION` or `--codegen=OPTION`, where `before` is the flag before it.
+fn fact_option<'a>(before: &str, flag: &'a str) -> Option<&'a str> {
+    let option = if before == "-C" || before == "--codegen" {
+        flag
+    } else {
+        match flag.strip_prefix("--codegen=") {
+            Some(option) => option,
+            None => flag.strip_prefix("-C")?,
+        }
+    };
+    if FACT_OPTIONS.iter().any(|it| option.starts_with(*it)) {
+        Some(option)
+    } else {
+        None
+    }
+}
+
+/// Returns whether the facts of a target are rustc's without flags, and not those that the user states.
+fn are_without_flags(target: &RustflagsTarget<'_>) -> bool {
+    match target.facts_from {
+        FactsFrom::Known | FactsFrom::File(_) => true,
+        FactsFrom::Lines(_) => false,
     }
 }
 
@@ -166,6 +213,9 @@ fn facts_of(
     let mut facts = RustflagsFacts::none(alloc);
     for flags in &used_flags(alloc, all, target, known)? {
         facts.add_all(alloc, flags)?;
+        if are_without_flags(target) {
+            facts.note_options(alloc, flags)?;
+        }
     }
     Ok(facts)
 }
