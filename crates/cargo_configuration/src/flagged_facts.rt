@@ -104,7 +104,13 @@ impl RustflagsFacts {
 }
 
 /// The codegen options by which rustc sets other facts.
-const FACT_OPTIONS: [&str; 4] = ["debug-assertions", "panic", "target-cpu", "target-feature"];
+const FACT_OPTIONS: [&str; 5] = [
+    "debug-assertions",
+    "opt-level",
+    "panic",
+    "target-cpu",
+    "target-feature",
+];
 
 /// Returns the codegen option in a flag if it changes facts. It is in the form `-C OPTION`, `-COPTION`,
 /// `--codegen OPTION` or `--codegen=OPTION`, where `before` is the flag before it.
